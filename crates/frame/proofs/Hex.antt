@@ -1,0 +1,174 @@
+-- Numbers in hexadecimal: written and read again, and read and written again. One law over the width for each. Assumes nothing.
+use mathlib.Core.Path.{_≡_, refl, sym, ap, ap₂, _∙_, subst}
+use mathlib.Core.List.{List, [], _∷_, _++_, append-assoc}
+use mathlib.Core.Logic.{⊎-elim}
+use mathlib.Core.Bool.{Bool, true, false, _&&_, _||_, cond}
+use Prim.Native.Nat.{ℕ, zero, suc, _+_, _*_, _/_, _%_, _<_, _≤_}
+use native.Mathlib.Nat.{add-zero, add-suc, suc-add, mod-lt, mul-pos, div-lt-iff-lt-mul, div-add-mod', le-of-suc-le-suc, not-suc-le-zero, le-of-lt, lt-of-lt-of-le}
+use native.Mathlib.Omega.{arith}
+use native.Mathlib.Numerals.{add-one}
+use lib.ListN.{length, take, drop, getD, set, length-append}
+use lib.Seq.{sets, getD-at, getD-append-add, getD-append-seam, drop-cons, drop-drop, take-add}
+use lib.Arith.{digits-lt, digits-div, digits-mod}
+use lib.Dec.{ltb, leb, lit≤}
+use borrow.Author.Tests.{lt-ltb, le-ltb, le-leb, lt-leb, ltb-true, ltb-false, leb-true, leb-false}
+use Rattle.frame.specs.Digits.{isDigit, valueOf, digitOf, allDigits, Width, one, twice, digitCount, size, inHex, numberAt, total, allInHex, numbersAt}
+use Rattle.frame.proofs.Laws.{and-split, or-cases, within-split}
+
+-- ---- a digit
+
+value-digit : (n : ℕ) → n < 16 → valueOf (digitOf n) ≡ n
+value-digit n h = go (ltb n 10) refl
+  where
+    go : (b : Bool) → ltb n 10 ≡ b → valueOf (digitOf n) ≡ n
+    go true e = let k : n < 10 = ltb-true _ _ e in simp (e, lt-ltb (48 + n) 58 (omega arith)) (omega arith)
+    go false e = let k : 10 ≤ n = ltb-false _ _ e in simp (e, le-ltb (87 + n) 58 (omega arith)) (omega arith)
+
+digit-digit : (n : ℕ) → n < 16 → isDigit (digitOf n) ≡ true
+digit-digit n h = go (ltb n 10) refl
+  where
+    go : (b : Bool) → ltb n 10 ≡ b → isDigit (digitOf n) ≡ true
+    go true e = let k : n < 10 = ltb-true _ _ e in simp (e, le-leb 48 (48 + n) (omega arith), le-leb (48 + n) 57 (omega arith))
+    go false e = let k : 10 ≤ n = ltb-false _ _ e in simp (e, lt-leb (87 + n) 57 (omega arith), le-leb 48 (87 + n) (omega arith), le-leb 97 (87 + n) (omega arith), le-leb (87 + n) 102 (omega arith))
+
+pub value-lt : (x : ℕ) → valueOf x < 16
+value-lt x = go (ltb x 58)
+  where
+    go : (b : Bool) → cond b (x % 16) ((x + 9) % 16) < 16
+    go true = omega arith
+    go false = omega arith
+
+digit-value : (x : ℕ) → isDigit x ≡ true → digitOf (valueOf x) ≡ x
+digit-value x h = ⊎-elim decimal letter (or-cases (leb 48 x && leb x 57) (leb 97 x && leb x 102) h)
+  where
+    decimal : (leb 48 x && leb x 57) ≡ true → digitOf (valueOf x) ≡ x
+    decimal e =
+        let p = within-split 48 x 57 e in
+        simp (lt-ltb x 58 (omega arith), lt-ltb (x % 16) 10 (omega arith)) (omega arith)
+
+    letter : (leb 97 x && leb x 102) ≡ true → digitOf (valueOf x) ≡ x
+    letter e =
+        let p = within-split 97 x 102 e in
+        simp (le-ltb x 58 (omega arith), le-ltb ((x + 9) % 16) 10 (omega arith)) (omega arith)
+
+-- ---- a number
+
+pub size-pos : (w : Width) → zero < size w
+size-pos one = lit≤ tt
+size-pos (twice w) = mul-pos (size-pos w) (size-pos w)
+
+high : (w : Width) (v : ℕ) → v < size (twice w) → v / size w < size w
+high w v h = div-lt-iff-lt-mul (size-pos w) .1 h
+
+low : (w : Width) (v : ℕ) → v % size w < size w
+low w v = mod-lt v (size-pos w)
+
+pub length-hex : (w : Width) (v : ℕ) → length (inHex w v) ≡ digitCount w
+unfolding inHex
+length-hex one v = refl
+length-hex (twice w) v =
+    length-append (inHex w (v / size w)) (inHex w (v % size w)) ∙ ap₂ _+_ (length-hex w (v / size w)) (length-hex w (v % size w))
+
+pub allDigits-append : (s t : List ℕ) → allDigits s ≡ true → allDigits t ≡ true → allDigits (s ++ t) ≡ true
+unfolding allDigits
+allDigits-append [] t h k = k
+allDigits-append (x ∷ s) t h k = let p = and-split (isDigit x) (allDigits s) h in rw (p .0) (allDigits-append s t (p .1) k)
+
+pub hex-hex : (w : Width) (v : ℕ) → v < size w → allDigits (inHex w v) ≡ true
+unfolding inHex allDigits
+hex-hex one v h = simp (digit-digit (v / 16) (omega arith), digit-digit (v % 16) (omega arith))
+hex-hex (twice w) v h =
+    allDigits-append (inHex w (v / size w)) (inHex w (v % size w)) (hex-hex w (v / size w) (high w v h)) (hex-hex w (v % size w) (low w v))
+
+-- written and read again
+pub num-hex : (w : Width) (v : ℕ) (p r : List ℕ) (at : ℕ) → length p ≡ at → v < size w → numberAt w (p ++ (inHex w v ++ r)) at ≡ v
+unfolding inHex numberAt
+num-hex one v p r at e h =
+    let t = digitOf (v / 16) ∷ digitOf (v % 16) ∷ r in
+    let e₁ : getD (p ++ t) at 0 ≡ digitOf (v / 16) = getD-at p _ _ 0 at e in
+    let e₂ : getD (p ++ t) (at + 1) 0 ≡ digitOf (v % 16) = ap (λ (n : ℕ). getD (p ++ t) (n + 1) 0) (sym e) ∙ getD-append-add p t 1 0 in
+    ap₂ (λ (x y : ℕ). x * 16 + y) (ap valueOf e₁ ∙ value-digit (v / 16) (omega arith)) (ap valueOf e₂ ∙ value-digit (v % 16) (omega arith))
+    ∙ div-add-mod' v 16
+num-hex (twice w) v p r at e h =
+    let a = inHex w (v / size w) in
+    let b = inHex w (v % size w) in
+    let e₁ : p ++ ((a ++ b) ++ r) ≡ p ++ (a ++ (b ++ r)) = ap (λ (l : List ℕ). p ++ l) (append-assoc a b r) in
+    let e₂ : p ++ (a ++ (b ++ r)) ≡ (p ++ a) ++ (b ++ r) = sym (append-assoc p a (b ++ r)) in
+    let n : length (p ++ a) ≡ at + digitCount w = length-append p a ∙ ap₂ _+_ e (length-hex w (v / size w)) in
+    ap₂ (λ (x y : ℕ). x * size w + y)
+    (ap (λ (l : List ℕ). numberAt w l at) e₁ ∙ num-hex w (v / size w) p (b ++ r) at e (high w v h))
+    (ap (λ (l : List ℕ). numberAt w l (at + digitCount w)) (e₁ ∙ e₂) ∙ num-hex w (v % size w) (p ++ a) r (at + digitCount w) n (low w v))
+    ∙ div-add-mod' v (size w)
+
+pub num-lt : (w : Width) (l : List ℕ) (at : ℕ) → numberAt w l at < size w
+unfolding numberAt
+num-lt one l at = digits-lt (value-lt (getD l at 0)) (value-lt (getD l (at + 1) 0))
+num-lt (twice w) l at = digits-lt (num-lt w l at) (num-lt w l (at + digitCount w))
+
+-- read and written again, where the digits are digits
+pub hex-num : (w : Width) (l : List ℕ) (n at : ℕ) → ((i : ℕ) → i < n → isDigit (getD l i 0) ≡ true) → n ≤ length l → at + digitCount w ≤ n → inHex w (numberAt w l at) ≡ take (digitCount w) (drop at l)
+unfolding inHex numberAt
+hex-num one l n at h k f =
+    let x = getD l at 0 in
+    let y = getD l (at + 1) 0 in
+    let e : drop at l ≡ x ∷ (y ∷ drop (suc (at + 1)) l) =
+    drop-cons l at 0 (omega arith) ∙ ap (λ (m : ℕ). x ∷ drop m l) (sym (add-one at)) ∙ ap (λ (r : List ℕ). x ∷ r) (drop-cons l (at + 1) 0 (omega arith)) in
+    ap₂ (λ (a b : ℕ). digitOf a ∷ digitOf b ∷ []) (digits-div (valueOf x) (value-lt y)) (digits-mod (valueOf x) (value-lt y))
+    ∙ ap₂ (λ (a b : ℕ). a ∷ b ∷ []) (digit-value x (h at (omega arith))) (digit-value y (h (at + 1) (omega arith)))
+    ∙ sym (ap (take 2) e)
+hex-num (twice w) l n at h k f =
+    let a = numberAt w l at in
+    let b = numberAt w l (at + digitCount w) in
+    let lt : b < size w = num-lt w l (at + digitCount w) in
+    ap₂ (λ (x y : ℕ). inHex w x ++ inHex w y) (digits-div a lt) (digits-mod a lt)
+    ∙ ap₂ _++_ (hex-num w l n at h k (omega arith)) (hex-num w l n (at + digitCount w) h k (omega arith) ∙ ap (take (digitCount w)) (sym (drop-drop (digitCount w) at l)))
+    ∙ sym (take-add (digitCount w) (digitCount w) (drop at l))
+
+-- ---- numbers one after the other
+
+-- each number is one of its width
+abbrev pub Fit : List Width → List ℕ → Type 0
+Fit [] [] = Unit {0}
+Fit [] (v ∷ vs) = ⊥
+Fit (w ∷ ws) [] = ⊥
+Fit (w ∷ ws) (v ∷ vs) = (v < size w) × Fit ws vs
+
+pub length-all : (ws : List Width) (vs : List ℕ) → length ws ≡ length vs → length (allInHex ws vs) ≡ total ws
+unfolding allInHex
+length-all [] vs e = refl
+length-all (w ∷ ws) [] e = let z : ⊥ = omega arith in absurd z
+length-all (w ∷ ws) (v ∷ vs) e =
+    length-append (inHex w v) (allInHex ws vs) ∙ ap₂ _+_ (length-hex w v) (length-all ws vs (omega arith))
+
+pub all-hex : (ws : List Width) (vs : List ℕ) → Fit ws vs → allDigits (allInHex ws vs) ≡ true
+unfolding allInHex allDigits
+all-hex [] [] f = refl
+all-hex [] (v ∷ vs) f = absurd f
+all-hex (w ∷ ws) [] f = absurd f
+all-hex (w ∷ ws) (v ∷ vs) f = allDigits-append (inHex w v) (allInHex ws vs) (hex-hex w v (f .0)) (all-hex ws vs (f .1))
+
+-- written and read again
+pub nums-hex : (ws : List Width) (vs p r : List ℕ) (at : ℕ) → length p ≡ at → Fit ws vs → numbersAt ws (p ++ (allInHex ws vs ++ r)) at ≡ vs
+unfolding allInHex numbersAt
+nums-hex [] [] p r at e f = refl
+nums-hex [] (v ∷ vs) p r at e f = absurd f
+nums-hex (w ∷ ws) [] p r at e f = absurd f
+nums-hex (w ∷ ws) (v ∷ vs) p r at e f =
+    let h = inHex w v in
+    let t = allInHex ws vs ++ r in
+    let e₁ : p ++ ((h ++ allInHex ws vs) ++ r) ≡ p ++ (h ++ t) = ap (λ (l : List ℕ). p ++ l) (append-assoc h (allInHex ws vs) r) in
+    let e₂ : p ++ (h ++ t) ≡ (p ++ h) ++ t = sym (append-assoc p h t) in
+    ap₂ (λ (x : ℕ) (xs : List ℕ). x ∷ xs)
+    (ap (λ (l : List ℕ). numberAt w l at) e₁ ∙ num-hex w v p t at e (f .0))
+    (ap (λ (l : List ℕ). numbersAt ws l (at + digitCount w)) (e₁ ∙ e₂)
+    ∙ nums-hex ws vs (p ++ h) r (at + digitCount w) (length-append p h ∙ ap₂ _+_ e (length-hex w v)) (f .1))
+
+-- read and written again
+pub hex-nums : (ws : List Width) (l : List ℕ) (n at : ℕ) → ((i : ℕ) → i < n → isDigit (getD l i 0) ≡ true) → n ≤ length l → at + total ws ≤ n
+    → allInHex ws (numbersAt ws l at) ≡ take (total ws) (drop at l)
+unfolding allInHex numbersAt
+hex-nums [] l n at h k f = refl
+hex-nums (w ∷ ws) l n at h k f =
+    ap₂ _++_ (hex-num w l n at h k (omega arith))
+    (hex-nums ws l n (at + digitCount w) h k (omega arith) ∙ ap (take (total ws)) (sym (drop-drop (digitCount w) at l)))
+    ∙ sym (take-add (digitCount w) (total ws) (drop at l))

@@ -1,0 +1,9 @@
+pub mod Laws
+pub mod NineKinds
+pub mod Hex
+pub mod Judged
+pub mod Accepted
+pub mod Frames
+pub mod RoundTrip
+pub mod Longest
+pub mod Stores

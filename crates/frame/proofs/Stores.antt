@@ -1,0 +1,72 @@
+-- Numbers stored one after the other, and a frame's line so stored in a buffer. Assumes nothing.
+use mathlib.Core.Path.{_≡_, refl, sym, ap, _∙_}
+use mathlib.Core.List.{List, [], _∷_, _++_}
+use mathlib.Core.Bool.{true, false}
+use Prim.Native.Nat.{ℕ, suc, _+_, _<_, _≤_}
+use native.Mathlib.Nat.{add-zero, add-suc, suc-add, zero-add}
+use native.Mathlib.Omega.{arith}
+use lib.ListN.{length, drop, set}
+use lib.Seq.{sets, sets-eq}
+use borrow.Author.Tests.{lt-ltb, le-ltb}
+use Rattle.frame.specs.Digits.{Width, digitCount, inHex, allInHex}
+use Rattle.frame.specs.Range.{inRange, kindOf}
+use Rattle.frame.specs.Layout.{digitsOf, frameInHex, lineOf}
+use Rattle.frame.specs.Writing.{writeNumber, writtenOf, bufferOf}
+use Rattle.frame.specs.declared.Media.{Media}
+use Rattle.frame.specs.declared.Message.{Message}
+use Rattle.frame.specs.declared.Written.{Written}
+use Rattle.frame.proofs.Hex.{length-hex}
+use Rattle.frame.proofs.Frames.{length-frame, length-line}
+
+-- ---- stores one after the other
+
+pub sets-append : (a b l : List ℕ) (i n : ℕ) → i + length a ≡ n → sets l i (a ++ b) ≡ sets (sets l i a) n b
+sets-append [] b l i n e = ap (λ (k : ℕ). sets l k b) (sym (add-zero i) ∙ e)
+sets-append (x ∷ a) b l i n e = sets-append a b (set l i x) (suc i) n (suc-add i (length a) ∙ sym (add-suc i (length a)) ∙ e)
+
+-- a number, then what follows it
+pub sets-hex : (l : List ℕ) (i : ℕ) (w : Width) (v : ℕ) (rest : List ℕ) → sets l i (inHex w v ++ rest) ≡ sets (sets l i (inHex w v)) (i + digitCount w) rest
+sets-hex l i w v rest = sets-append (inHex w v) rest l i (i + digitCount w) (ap (_+_ i) (length-hex w v))
+
+-- numbers one after the other are the first and then the rest
+pub all-cons : (w : Width) (ws : List Width) (v : ℕ) (vs : List ℕ) → allInHex (w ∷ ws) (v ∷ vs) ≡ inHex w v ++ allInHex ws vs
+unfolding allInHex
+all-cons w ws v vs = refl
+
+pub all-none : (vs : List ℕ) → allInHex [] vs ≡ []
+unfolding allInHex
+all-none vs = refl
+
+-- ---- the three answers of the writer
+
+-- the writer's number, length and buffer
+abbrev pub gives : Message → Media → List ℕ → ℕ → ℕ → List ℕ → Type 0
+gives m media out number length after =
+    (_≡_ {A = Written} (record { number = number; length = length }) (writtenOf m media out)) × (after ≡ bufferOf m media out)
+
+module _ (m : Message) (media : Media) (out : List ℕ) where
+  pub unranged : inRange m media ≡ false → gives m media out 5 0 out
+  unfolding writtenOf bufferOf writeNumber
+  unranged b = (simp b, simp b)
+
+  pub no-room : inRange m media ≡ true → length out ≤ digitsOf (kindOf m) → gives m media out 6 0 out
+  unfolding writtenOf bufferOf writeNumber
+  no-room g h =
+      let n = length-line m media in
+      let t = lt-ltb (length out) (length (lineOf m media)) (omega arith) in (simp (g, t), simp (g, t))
+
+  stored : digitsOf (kindOf m) < length out → set (sets out 0 (frameInHex m media)) (digitsOf (kindOf m)) 10 ≡ lineOf m media ++ drop (length (lineOf m media)) out
+  unfolding lineOf
+  stored h =
+      let hs = frameInHex m media in
+      let n = length-line m media in
+      sym (sets-append hs (10 ∷ []) out 0 (digitsOf (kindOf m)) (zero-add (length hs) ∙ length-frame m media))
+      ∙ sets-eq (lineOf m media) out 0 (omega arith) ∙ ap (λ (k : ℕ). lineOf m media ++ drop k out) (zero-add (length (lineOf m media)))
+
+  pub room : inRange m media ≡ true → digitsOf (kindOf m) < length out
+      → gives m media out 0 (digitsOf (kindOf m) + 1) (set (sets out 0 (frameInHex m media)) (digitsOf (kindOf m)) 10)
+  unfolding writtenOf bufferOf writeNumber
+  room g h =
+      let n = length-line m media in
+      let t = le-ltb (length out) (length (lineOf m media)) (omega arith) in
+      (simp (g, t) (simp n), simp (g, t) (stored h))

@@ -1,0 +1,22 @@
+-- `frame::digits::one_at` meets its contract: a number is its high part, then its low part. Assumes nothing.
+use Rattle.frame.specs.Digits.{numberAt}
+use borrow.Author.Needs.{needs}
+use Rattle.frame.proofs.digits.one_at.Statement.{statement}
+use Rattle.frame.proofs.digits.one_at.Tie as tie
+
+returns : tie.Need-returns
+unfolding numberAt
+returns c = cc
+
+pub one-at-spec : {M : Type 1} → statement M
+one-at-spec =
+    tie.close
+    (tie.spec
+    (λ c. search needs)
+    (λ c κs. search needs)
+    (λ c. search needs)
+    (λ c. search needs)
+    (λ c κs. search needs)
+    (λ c. search needs)
+    (λ c. search needs)
+    returns)

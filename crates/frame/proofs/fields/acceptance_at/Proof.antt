@@ -1,0 +1,19 @@
+-- `frame::fields::acceptance_at` meets its contract: each field stands at its place. Assumes nothing.
+use Rattle.frame.specs.Digits.{numbersAt}
+use borrow.Author.Needs.{needs}
+use Rattle.frame.proofs.fields.acceptance_at.Statement.{statement}
+use Rattle.frame.proofs.fields.acceptance_at.Tie as tie
+
+returns : tie.Need-returns
+unfolding numbersAt
+returns c = cc
+
+pub acceptance-at-spec : {M : Type 1} → statement M
+acceptance-at-spec =
+    tie.close
+    (tie.spec
+    (λ c κs. search needs)
+    (λ c κs. search needs)
+    (λ c κs. search needs)
+    (λ c κs. search needs)
+    returns)

@@ -1,0 +1,21 @@
+-- `frame::judge::acceptance_fits` meets its contract: each field in its range. Assumes nothing.
+use Rattle.frame.specs.Digits.{numbersAt}
+use Rattle.frame.specs.Range.{acceptanceGood}
+use borrow.Author.Needs.{needs}
+use Rattle.frame.proofs.judge.acceptance_fits.Statement.{statement}
+use Rattle.frame.proofs.judge.acceptance_fits.Tie as tie
+
+returns : tie.Need-returns
+unfolding numbersAt acceptanceGood
+returns c = cc
+
+pub acceptance-fits-spec : {M : Type 1} → statement M
+acceptance-fits-spec =
+    tie.close
+    (tie.spec
+    (λ c κs. search needs)
+    (λ c κs. search needs)
+    (λ c κs. search needs)
+    (λ c κs. search needs)
+    (λ c κs. search needs)
+    returns)

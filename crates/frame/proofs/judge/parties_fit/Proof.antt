@@ -1,0 +1,19 @@
+-- `frame::judge::parties_fit` meets its contract: each field in its range. Assumes nothing.
+use Rattle.frame.specs.Digits.{numbersAt}
+use Rattle.frame.specs.Range.{partiesGood}
+use borrow.Author.Needs.{needs}
+use Rattle.frame.proofs.judge.parties_fit.Statement.{statement}
+use Rattle.frame.proofs.judge.parties_fit.Tie as tie
+
+returns : tie.Need-returns
+unfolding numbersAt partiesGood
+returns c = cc
+
+pub parties-fit-spec : {M : Type 1} → statement M
+parties-fit-spec =
+    tie.close
+    (tie.spec
+    (λ c κs. search needs)
+    (λ c κs. search needs)
+    (λ c κs. search needs)
+    returns)

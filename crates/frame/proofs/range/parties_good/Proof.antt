@@ -1,0 +1,18 @@
+-- `frame::range::parties_good` meets its contract: each field in its range. Assumes nothing.
+use Rattle.frame.specs.Range.{partiesGood}
+use borrow.Author.Needs.{needs}
+use Rattle.frame.proofs.range.parties_good.Statement.{statement}
+use Rattle.frame.proofs.range.parties_good.Tie as tie
+
+returns : tie.Need-returns
+unfolding partiesGood
+returns c = cc
+
+pub parties-good-spec : {M : Type 1} → statement M
+parties-good-spec =
+    tie.close
+    (tie.spec
+    (λ c κs. search needs)
+    (λ c κs. search needs)
+    (λ c κs. search needs)
+    returns)

@@ -1,0 +1,18 @@
+-- `frame::range::setup_good` meets its contract: each field in its range. Assumes nothing.
+use Rattle.frame.specs.Range.{setupGood}
+use borrow.Author.Needs.{needs}
+use Rattle.frame.proofs.range.setup_good.Statement.{statement}
+use Rattle.frame.proofs.range.setup_good.Tie as tie
+
+returns : tie.Need-returns
+unfolding setupGood
+returns c = cc
+
+pub setup-good-spec : {M : Type 1} → statement M
+setup-good-spec =
+    tie.close
+    (tie.spec
+    (λ c κs. search needs)
+    (λ c κs. search needs)
+    (λ c κs. search needs)
+    returns)

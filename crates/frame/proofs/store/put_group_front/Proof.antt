@@ -1,0 +1,22 @@
+-- `frame::store::put_group_front` meets its contract: each field at its place. Assumes nothing.
+use Rattle.frame.specs.Digits.{allInHex}
+use Rattle.frame.proofs.Stores.{sets-hex}
+use borrow.Author.Needs.{needs}
+use Rattle.frame.proofs.store.put_group_front.Statement.{statement}
+use Rattle.frame.proofs.store.put_group_front.Tie as tie
+
+returns : tie.Need-returns
+unfolding allInHex
+returns c = simp sets-hex (cc)
+
+pub put-group-front-spec : {M : Type 1} → statement M
+put-group-front-spec =
+    tie.close
+    (tie.spec
+    (λ c κs. search needs)
+    (λ c κs. search needs)
+    (λ c κs. search needs)
+    (λ c κs. search needs)
+    (λ c κs. search needs)
+    (λ c. search needs)
+    returns)

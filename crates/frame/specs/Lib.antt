@@ -1,0 +1,6 @@
+pub mod Number
+pub mod Digits
+pub mod Range
+pub mod Layout
+pub mod Line
+pub mod Writing

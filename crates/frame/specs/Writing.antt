@@ -1,0 +1,30 @@
+-- What writing a frame into a lent buffer gives: the number 0, 5 or 6, the length, and the buffer to its last byte. Assumes nothing.
+use Prim.Native.Nat.{ℕ}
+use mathlib.Core.List.{List, [], _∷_, _++_}
+use mathlib.Core.Bool.{not, cond}
+use lib.ListN.{length, drop}
+use lib.Dec.{ltb, eqb}
+use Rattle.frame.specs.Number.{firstGiven}
+use Rattle.frame.specs.Range.{inRange}
+use Rattle.frame.specs.Layout.{lineOf}
+use Rattle.frame.specs.declared.Media.{Media}
+use Rattle.frame.specs.declared.Message.{Message}
+use Rattle.frame.specs.declared.Written.{Written}
+
+-- 5: a field outside its range; 6: the buffer is shorter than the line
+unfoldable pub writeNumber : Message → Media → List ℕ → ℕ
+writeNumber m media out =
+    firstGiven ((5, not (inRange m media)) ∷ (6, ltb (length out) (length (lineOf m media))) ∷ [])
+
+-- the number, and the line's length where it is 0
+unfoldable pub writtenOf : Message → Media → List ℕ → Written
+writtenOf m media out =
+    record {
+      number = writeNumber m media out;
+      length = cond (eqb (writeNumber m media out) 0) (length (lineOf m media)) 0;
+    }
+
+-- the line at the front and the later bytes as they were, or all as it was
+unfoldable pub bufferOf : Message → Media → List ℕ → List ℕ
+bufferOf m media out =
+    cond (eqb (writeNumber m media out) 0) (lineOf m media ++ drop (length (lineOf m media)) out) out

@@ -1,0 +1,65 @@
+// Hexadecimal digits, and the numbers whose digits stand at a place of a line.
+ghost use mathlib.Core.Path.{_≡_};
+ghost use Prim.Native.Nat.{_+_, _<_, _≤_};
+ghost use lib.ListN.{length, take};
+ghost use Rattle.frame.specs.Digits.{isDigit, valueOf, allDigits, numberAt, one, two, four};
+
+// Whether a byte is 0-9 or a-f.
+pub(crate) fn is_digit(x: u8) -> bool
+    ensures { λ r. ⌜ r ≡ isDigit x ⌝ }
+{
+    ((48 <= x) & (x <= 57)) | ((97 <= x) & (x <= 102))
+}
+
+// Whether each of the first count bytes is a digit.
+pub(crate) fn all_digits(line: &[u8], count: usize) -> bool
+    requires { ⌜ count ≤ length (now line) ⌝ }
+    ensures { λ r. ⌜ r ≡ allDigits (take count (now (line .entry))) ⌝ }
+{
+    let mut i = 0;
+    while i < count {
+        if !is_digit(line[i]) {
+            return false;
+        }
+        i += 1;
+    }
+    true
+}
+
+// What a digit stands for.
+pub(crate) fn value_of(x: u8) -> u8
+    ensures { λ r. ⌜ (r ≡ valueOf x) × (r < 16) ⌝ }
+{
+    if x < 58 {
+        return x % 16;
+    }
+    (x % 16 + 9) % 16
+}
+
+// The numbers of one, two and four bytes whose digits stand from place at on.
+pub(crate) fn one_at(line: &[u8], at: usize) -> u8
+    requires { ⌜ at + 2 ≤ length (now line) ⌝ }
+    ensures { λ r. ⌜ r ≡ numberAt one (now (line .entry)) at ⌝ }
+{
+    let high = value_of(line[at]);
+    let low = value_of(line[at + 1]);
+    high * 16 + low
+}
+
+pub(crate) fn two_at(line: &[u8], at: usize) -> u16
+    requires { ⌜ at + 4 ≤ length (now line) ⌝ }
+    ensures { λ r. ⌜ r ≡ numberAt two (now (line .entry)) at ⌝ }
+{
+    let high = one_at(line, at);
+    let low = one_at(line, at + 2);
+    (high as u16) * 256 + (low as u16)
+}
+
+pub(crate) fn four_at(line: &[u8], at: usize) -> u32
+    requires { ⌜ at + 8 ≤ length (now line) ⌝ }
+    ensures { λ r. ⌜ r ≡ numberAt four (now (line .entry)) at ⌝ }
+{
+    let high = two_at(line, at);
+    let low = two_at(line, at + 4);
+    (high as u32) * 65536 + (low as u32)
+}

@@ -1,0 +1,106 @@
+// The fields of a frame written at their places of a buffer.
+use crate::Acceptance;
+use crate::GroupCall;
+use crate::Media;
+use crate::Message;
+use crate::Parties;
+use crate::Setup;
+use crate::put::put_four;
+use crate::put::put_one;
+use crate::put::put_two;
+ghost use mathlib.Core.Path.{_≡_};
+ghost use mathlib.Core.List.{[], _∷_};
+ghost use Prim.Native.Nat.{_+_, _≤_};
+ghost use lib.ListN.{length};
+ghost use lib.Seq.{sets};
+ghost use Rattle.frame.specs.Digits.{one, two, four, allInHex};
+ghost use Rattle.frame.specs.Range.{kindOf};
+ghost use Rattle.frame.specs.Layout.{front, back, digitsOf, partiesThen, frameInHex};
+
+// The kind, and the identifier and the users of a private call.
+fn put_parties(out: &mut [u8], kind: u8, p: Parties)
+    requires { ⌜ 22 ≤ length (now out) ⌝ }
+    ensures { λ _. ⌜ now (out .exit) ≡ sets (now (out .entry)) 0 (allInHex (front 2) (kind ∷ partiesThen p [])) ⌝ }
+{
+    put_one(out, 0, kind);
+    put_two(out, 2, p.identifier);
+    put_four(out, 6, p.caller);
+    put_four(out, 14, p.callee);
+}
+
+// A setup's fields and its media, behind the parties.
+fn put_setup(out: &mut [u8], s: Setup, media: Media)
+    requires { ⌜ 42 ≤ length (now out) ⌝ }
+    ensures { λ _. ⌜ now (out .exit) ≡ sets (now (out .entry)) 22 (allInHex (one ∷ one ∷ four ∷ four ∷ []) (s .«commencement» ∷ s .«call_type» ∷ media .number ∷ s .«pck_id» ∷ [])) ⌝ }
+{
+    put_one(out, 22, s.commencement);
+    put_one(out, 24, s.call_type);
+    put_four(out, 26, media.number);
+    put_four(out, 34, s.pck_id);
+}
+
+// The fields of a group call that stand before the media.
+fn put_group_front(out: &mut [u8], c: GroupCall)
+    requires { ⌜ 20 ≤ length (now out) ⌝ }
+    ensures { λ _. ⌜ now (out .exit) ≡ sets (now (out .entry)) 0 (allInHex (front 8) (8 ∷ c .identifier ∷ c .group ∷ c .«call_type» ∷ c .refresh ∷ [])) ⌝ }
+{
+    put_one(out, 0, 8);
+    put_two(out, 2, c.identifier);
+    put_four(out, 6, c.group);
+    put_one(out, 14, c.call_type);
+    put_two(out, 16, c.refresh);
+}
+
+// Those that stand after it, from place at on.
+fn put_group_back(out: &mut [u8], at: usize, c: GroupCall, confirm: u8)
+    requires { ⌜ at + 34 ≤ length (now out) ⌝ }
+    ensures { λ _. ⌜ now (out .exit) ≡ sets (now (out .entry)) at (allInHex (back 8) (c .originator ∷ c .start ∷ c .«last_change» ∷ c .«last_changer» ∷ confirm ∷ [])) ⌝ }
+{
+    put_four(out, at, c.originator);
+    put_four(out, at + 8, c.start);
+    put_four(out, at + 16, c.last_change);
+    put_four(out, at + 24, c.last_changer);
+    put_one(out, at + 32, confirm);
+}
+
+fn put_acceptance(out: &mut [u8], a: Acceptance)
+    requires { ⌜ 24 ≤ length (now out) ⌝ }
+    ensures { λ _. ⌜ now (out .exit) ≡ sets (now (out .entry)) 0 (allInHex (front 9) (9 ∷ a .identifier ∷ a .sender ∷ a .«call_type» ∷ a .group ∷ [])) ⌝ }
+{
+    put_one(out, 0, 9);
+    put_two(out, 2, a.identifier);
+    put_four(out, 6, a.sender);
+    put_one(out, 14, a.call_type);
+    put_four(out, 16, a.group);
+}
+
+// The digits of a frame, at the front of out.
+pub(crate) fn put_frame(out: &mut [u8], message: Message, media: Media)
+    requires { ⌜ digitsOf (kindOf message) ≤ length (now out) ⌝ }
+    ensures { λ _. ⌜ now (out .exit) ≡ sets (now (out .entry)) 0 (frameInHex message media) ⌝ }
+{
+    match message {
+        Message::SetupRequest(p, s) => {
+            put_parties(out, 1, p);
+            put_setup(out, s, media);
+        }
+        Message::Ringing(p) => put_parties(out, 2, p),
+        Message::Accept(p) => {
+            put_parties(out, 3, p);
+            put_four(out, 22, media.number);
+        }
+        Message::Reject(p, reason) => {
+            put_parties(out, 4, p);
+            put_one(out, 22, reason);
+        }
+        Message::Release(p) => put_parties(out, 5, p),
+        Message::ReleaseAck(p) => put_parties(out, 6, p),
+        Message::AcceptAck(p) => put_parties(out, 7, p),
+        Message::Announcement(c, confirm) => {
+            put_group_front(out, c);
+            put_four(out, 20, media.number);
+            put_group_back(out, 28, c, confirm);
+        }
+        Message::GroupAccept(a) => put_acceptance(out, a),
+    }
+}

@@ -124,6 +124,10 @@ hex-num (twice w) l n at h k f =
     ∙ ap₂ _++_ (hex-num w l n at h k (omega arith)) (hex-num w l n (at + digitCount w) h k (omega arith) ∙ ap (take (digitCount w)) (sym (drop-drop (digitCount w) at l)))
     ∙ sym (take-add (digitCount w) (digitCount w) (drop at l))
 
+-- a place, and the places behind it
+pub places : (at m n : ℕ) → at + m + n ≡ at + (m + n)
+places at m n = omega arith
+
 -- ---- numbers one after the other
 
 -- each number is one of its width

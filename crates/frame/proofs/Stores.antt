@@ -2,21 +2,21 @@
 use mathlib.Core.Path.{_≡_, refl, sym, ap, _∙_}
 use mathlib.Core.List.{List, [], _∷_, _++_}
 use mathlib.Core.Bool.{true, false}
-use Prim.Native.Nat.{ℕ, suc, _+_, _<_, _≤_}
+use Prim.Native.Nat.{ℕ, suc, _+_, _/_, _%_, _<_, _≤_}
 use native.Mathlib.Nat.{add-zero, add-suc, suc-add, zero-add}
 use native.Mathlib.Omega.{arith}
 use lib.ListN.{length, drop, set}
 use lib.Seq.{sets, sets-eq}
 use borrow.Author.Tests.{lt-ltb, le-ltb}
-use Rattle.frame.specs.Digits.{Width, digitCount, inHex, allInHex}
+use Rattle.frame.specs.Digits.{Width, twice, digitCount, size, inHex, allInHex}
 use Rattle.frame.specs.Range.{inRange, kindOf}
-use Rattle.frame.specs.Layout.{digitsOf, frameInHex, lineOf}
+use Rattle.frame.specs.Layout.{front, back, mediaPlace, backPlace, digitsOf, frontOf, backOf, mediaInHex, frameInHex, lineOf}
 use Rattle.frame.specs.Writing.{writeNumber, writtenOf, bufferOf}
 use Rattle.frame.specs.declared.Media.{Media}
 use Rattle.frame.specs.declared.Message.{Message}
 use Rattle.frame.specs.declared.Written.{Written}
 use Rattle.frame.proofs.Hex.{length-hex}
-use Rattle.frame.proofs.Frames.{length-frame, length-line}
+use Rattle.frame.proofs.Frames.{length-front, length-media, length-frame, length-line}
 
 -- ---- stores one after the other
 
@@ -28,6 +28,11 @@ sets-append (x ∷ a) b l i n e = sets-append a b (set l i x) (suc i) n (suc-add
 pub sets-hex : (l : List ℕ) (i : ℕ) (w : Width) (v : ℕ) (rest : List ℕ) → sets l i (inHex w v ++ rest) ≡ sets (sets l i (inHex w v)) (i + digitCount w) rest
 sets-hex l i w v rest = sets-append (inHex w v) rest l i (i + digitCount w) (ap (_+_ i) (length-hex w v))
 
+-- a number of twice the width, half by half
+pub sets-twice : (w : Width) (l : List ℕ) (i v : ℕ) → sets (sets l i (inHex w (v / size w))) (i + digitCount w) (inHex w (v % size w)) ≡ sets l i (inHex (twice w) v)
+unfolding inHex
+sets-twice w l i v = sym (sets-hex l i w (v / size w) (inHex w (v % size w)))
+
 -- numbers one after the other are the first and then the rest
 pub all-cons : (w : Width) (ws : List Width) (v : ℕ) (vs : List ℕ) → allInHex (w ∷ ws) (v ∷ vs) ≡ inHex w v ++ allInHex ws vs
 unfolding allInHex
@@ -36,6 +41,16 @@ all-cons w ws v vs = refl
 pub all-none : (vs : List ℕ) → allInHex [] vs ≡ []
 unfolding allInHex
 all-none vs = refl
+
+-- a frame's three parts, each at its place
+pub sets-frame : (m : Message) (media : Media) (out : List ℕ) → sets (sets (sets out 0 (allInHex (front (kindOf m)) (frontOf m))) (mediaPlace (kindOf m)) (mediaInHex (kindOf m) media)) (backPlace (kindOf m)) (allInHex (back (kindOf m)) (backOf m)) ≡ sets out 0 (frameInHex m media)
+unfolding frameInHex
+sets-frame m media out =
+    let f = allInHex (front (kindOf m)) (frontOf m) in
+    let h = mediaInHex (kindOf m) media in
+    let b = allInHex (back (kindOf m)) (backOf m) in
+    sym (sets-append f (h ++ b) out 0 (mediaPlace (kindOf m)) (zero-add (length f) ∙ length-front m)
+    ∙ sets-append h b (sets out 0 f) (mediaPlace (kindOf m)) (backPlace (kindOf m)) (ap (_+_ (mediaPlace (kindOf m))) (length-media (kindOf m) media)))
 
 -- ---- the three answers of the writer
 

@@ -1,13 +1,13 @@
 -- `frame::check_line` meets its contract: each test gives its number where those before it do not. Assumes nothing.
 use mathlib.Core.Path.{_≡_, sym, ap, _∙_}
 use mathlib.Core.List.{List}
-use mathlib.Core.Bool.{true, false}
+use mathlib.Core.Bool.{true, false, not}
 use Prim.Native.Nat.{ℕ}
 use native.Mathlib.Omega.{arith}
 use borrow.Author.Tests.{eq-eqb, ne-eqb, lt-ltb, le-ltb, not-false}
-use Rattle.frame.specs.Range.{within}
+use Rattle.frame.specs.Range.{within, inRange}
 use Rattle.frame.specs.Layout.{digitsOf}
-use Rattle.frame.specs.Line.{unended, undigital, unkind, misfit, unranged, refusalOf}
+use Rattle.frame.specs.Line.{messageAt, mediaAt, kindAt, unended, undigital, unkind, misfit, unranged, refusalOf}
 use Rattle.frame.proofs.Laws.{within-split}
 use borrow.Author.Needs.{needs}
 use Rattle.frame.proofs.check_line.Statement.{statement}
@@ -30,10 +30,13 @@ ended : (c : tie.Else2) → unended (line (at₂ c)) ≡ false
 ended c = simp (ne-eqb _ _ (c .before .before .if1 .left), eq-eqb _ _ (c .if2 .left))
 
 digital : (c : tie.Else3) → undigital (line (at₂ (c .before .before))) ≡ false
-digital c = cc
+digital c = ap not (sym (c .before .all-digits .ensures)) ∙ c .if3 .left
+
+judged : (c : tie.After-kind-good) → not (within 1 (kindAt (line (at₄ (c .before .before)))) 9) ≡ not (c .kind-good .result)
+judged c = ap (λ (k : ℕ). not (within 1 k 9)) (sym (c .before .one-at .ensures)) ∙ ap not (sym (c .kind-good .ensures))
 
 kind : (c : tie.Else5) → unkind (line (at₅ c)) ≡ false
-kind c = simp (le-ltb _ _ (c .before .before .before .if4 .left)) (cc)
+kind c = simp (le-ltb _ _ (c .before .before .before .if4 .left)) (judged (c .before) ∙ c .if5 .left)
 
 fits : (c : tie.Else6) → misfit (line (at₅ (c .before .before))) ≡ false
 fits c =
@@ -50,7 +53,7 @@ returns-2 c = simp (ne-eqb _ _ (c .before .before .if1 .left), ne-eqb _ _ (c .if
 returns-3 : tie.Need-returns-3
 unfolding refusalOf
 returns-3 c =
-    let u : undigital (line (at₂ (c .before .before))) ≡ true = cc in
+    let u : undigital (line (at₂ (c .before .before))) ≡ true = ap not (sym (c .before .all-digits .ensures)) ∙ c .if3 .taken in
     simp (ended (c .before .before), u)
 
 returns-4 : tie.Need-returns-4
@@ -61,7 +64,7 @@ returns-5 : tie.Need-returns-5
 unfolding refusalOf
 returns-5 c =
     let p = c .before .before .before in
-    let u : unkind (line (at₄ p)) ≡ true = simp (le-ltb _ _ (p .if4 .left)) (cc) in
+    let u : unkind (line (at₄ p)) ≡ true = simp (le-ltb _ _ (p .if4 .left)) (judged (c .before) ∙ c .if5 .taken) in
     simp (ended (p .before .before .before), digital (p .before), u)
 
 returns-6 : tie.Need-returns-6
@@ -78,12 +81,18 @@ frame-fits-requires c κs =
     let h : within 1 (p .before .before .one-at .result) 9 ≡ true = sym (p .before .kind-good .ensures) ∙ not-false _ (p .if5 .left) in
     (within-split 1 (p .before .before .one-at .result) 9 h, (omega (arith, c .if6 .left, c .before .digits-of .ensures), not-false _ (digital (p .before .before .before .before))))
 
+ranged : (c : tie.After-frame-fits) → unranged (line (at₅ (c .before .before .before))) ≡ not (c .frame-fits .result)
+ranged c =
+    let p = c .before .before .before in
+    let l = line (at₅ p) in
+    ap (λ (k : ℕ). not (inRange (messageAt k l) (mediaAt k l))) (sym (p .before .before .one-at .ensures)) ∙ ap not (sym (c .frame-fits .ensures))
+
 returns-7 : tie.Need-returns-7
 unfolding refusalOf
 returns-7 c =
     let q = c .before .before in
     let p = q .before .before in
-    let u : unranged (line (at₅ p)) ≡ true = cc in
+    let u : unranged (line (at₅ p)) ≡ true = ranged (c .before) ∙ c .if7 .taken in
     simp (ended (p .before .before .before .before .before .before), digital (p .before .before .before .before), kind p, fits q, u)
 
 returns-8 : tie.Need-returns-8
@@ -91,7 +100,7 @@ unfolding refusalOf
 returns-8 c =
     let q = c .before .before in
     let p = q .before .before in
-    let u : unranged (line (at₅ p)) ≡ false = cc in
+    let u : unranged (line (at₅ p)) ≡ false = ranged (c .before) ∙ c .if7 .left in
     simp (ended (p .before .before .before .before .before .before), digital (p .before .before .before .before), kind p, fits q, u)
 
 pub check-line-spec : {M : Type 1} → statement M

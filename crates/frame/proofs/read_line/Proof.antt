@@ -17,7 +17,7 @@ facts c = accepted _ (zero c)
 
 returns : tie.Need-returns
 unfolding readLine
-returns c = rw (ne-eqb _ _ (λ e. c .if1 .taken (c .before .check-line .ensures ∙ e))) (cc)
+returns c = rw (ne-eqb _ _ (λ e. c .if1 .taken (c .before .check-line .ensures ∙ e)), c .before .check-line .ensures)
 
 one-at-requires : tie.Need-one-at-requires
 one-at-requires c κs = let a = facts c in omega arith
@@ -36,7 +36,7 @@ media-at-requires c κs =
 
 returns-2 : tie.Need-returns-2
 unfolding readLine
-returns-2 c = rw (eq-eqb _ _ (zero (c .before .before .before))) (cc)
+returns-2 c = rw (eq-eqb _ _ (zero (c .before .before .before)), c .media-at .ensures, c .before .message-at .ensures, c .before .before .one-at .ensures)
 
 pub read-line-spec : {M : Type 1} → statement M
 read-line-spec =

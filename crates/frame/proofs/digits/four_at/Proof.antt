@@ -4,11 +4,8 @@ use borrow.Author.Needs.{needs}
 use Rattle.frame.proofs.digits.four_at.Statement.{statement}
 use Rattle.frame.proofs.digits.four_at.Tie as tie
 
-returns : tie.Need-returns
-unfolding numberAt
-returns c = cc
-
 pub four-at-spec : {M : Type 1} → statement M
+unfolding numberAt
 four-at-spec =
     tie.close
     (tie.spec
@@ -19,4 +16,4 @@ four-at-spec =
     (λ c. search needs)
     (λ c. search needs)
     (λ c. search needs)
-    returns)
+    (λ c. rw (c .two-at2 .ensures, c .before .two-at .ensures)))

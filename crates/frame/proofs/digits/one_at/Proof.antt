@@ -4,11 +4,8 @@ use borrow.Author.Needs.{needs}
 use Rattle.frame.proofs.digits.one_at.Statement.{statement}
 use Rattle.frame.proofs.digits.one_at.Tie as tie
 
-returns : tie.Need-returns
-unfolding numberAt
-returns c = cc
-
 pub one-at-spec : {M : Type 1} → statement M
+unfolding numberAt
 one-at-spec =
     tie.close
     (tie.spec
@@ -19,4 +16,4 @@ one-at-spec =
     (λ c κs. search needs)
     (λ c. search needs)
     (λ c. search needs)
-    returns)
+    (λ c. rw (c .value-of2 .ensures .0, c .before .before .value-of .ensures .0)))

@@ -4,11 +4,8 @@ use borrow.Author.Needs.{needs}
 use Rattle.frame.proofs.digits.two_at.Statement.{statement}
 use Rattle.frame.proofs.digits.two_at.Tie as tie
 
-returns : tie.Need-returns
-unfolding numberAt
-returns c = cc
-
 pub two-at-spec : {M : Type 1} → statement M
+unfolding numberAt
 two-at-spec =
     tie.close
     (tie.spec
@@ -19,4 +16,4 @@ two-at-spec =
     (λ c. search needs)
     (λ c. search needs)
     (λ c. search needs)
-    returns)
+    (λ c. rw (c .one-at2 .ensures, c .before .one-at .ensures)))

@@ -4,11 +4,8 @@ use borrow.Author.Needs.{needs}
 use Rattle.frame.proofs.fields.acceptance_at.Statement.{statement}
 use Rattle.frame.proofs.fields.acceptance_at.Tie as tie
 
-returns : tie.Need-returns
-unfolding numbersAt
-returns c = cc
-
 pub acceptance-at-spec : {M : Type 1} → statement M
+unfolding numbersAt
 acceptance-at-spec =
     tie.close
     (tie.spec
@@ -16,4 +13,4 @@ acceptance-at-spec =
     (λ c κs. search needs)
     (λ c κs. search needs)
     (λ c κs. search needs)
-    returns)
+    (λ c. rw (c .four-at2 .ensures, c .before .one-at .ensures, c .before .before .four-at .ensures, c .before .before .before .two-at .ensures)))

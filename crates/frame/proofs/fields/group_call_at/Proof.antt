@@ -1,21 +1,12 @@
 -- `frame::fields::group_call_at` meets its contract: each field stands at its place. Assumes nothing.
-use mathlib.Core.Path.{_≡_}
-use Prim.Native.Nat.{_+_}
-use native.Mathlib.Omega.{arith}
 use Rattle.frame.specs.Digits.{numbersAt}
+use Rattle.frame.proofs.Hex.{places}
 use borrow.Author.Needs.{needs}
 use Rattle.frame.proofs.fields.group_call_at.Statement.{statement}
 use Rattle.frame.proofs.fields.group_call_at.Tie as tie
 
-returns : tie.Need-returns
-unfolding numbersAt
-returns c =
-    let at = c .before .before .before .before .before .before .before .before .before .args .at in
-    let e₁ : at + 8 + 8 ≡ at + 16 = omega arith in
-    let e₂ : at + 16 + 8 ≡ at + 24 = omega arith in
-    cc
-
 pub group-call-at-spec : {M : Type 1} → statement M
+unfolding numbersAt
 group-call-at-spec =
     tie.close
     (tie.spec
@@ -30,4 +21,4 @@ group-call-at-spec =
     (λ c κs. search needs)
     (λ c. search needs)
     (λ c κs. search needs)
-    returns)
+    (λ c. rw (c .four-at5 .ensures, c .before .four-at4 .ensures, c .before .before .four-at3 .ensures, c .before .before .before .four-at2 .ensures, c .before .before .before .before .two-at2 .ensures, c .before .before .before .before .before .one-at .ensures, c .before .before .before .before .before .before .four-at .ensures, c .before .before .before .before .before .before .before .two-at .ensures, places _ 8 8, places _ 16 8)))

@@ -4,15 +4,12 @@ use borrow.Author.Needs.{needs}
 use Rattle.frame.proofs.fields.parties_at.Statement.{statement}
 use Rattle.frame.proofs.fields.parties_at.Tie as tie
 
-returns : tie.Need-returns
-unfolding numbersAt
-returns c = cc
-
 pub parties-at-spec : {M : Type 1} → statement M
+unfolding numbersAt
 parties-at-spec =
     tie.close
     (tie.spec
     (λ c κs. search needs)
     (λ c κs. search needs)
     (λ c κs. search needs)
-    returns)
+    (λ c. rw (c .four-at2 .ensures, c .before .four-at .ensures, c .before .before .two-at .ensures)))

@@ -5,11 +5,8 @@ use borrow.Author.Needs.{needs}
 use Rattle.frame.proofs.judge.acceptance_fits.Statement.{statement}
 use Rattle.frame.proofs.judge.acceptance_fits.Tie as tie
 
-returns : tie.Need-returns
-unfolding numbersAt acceptanceGood
-returns c = cc
-
 pub acceptance-fits-spec : {M : Type 1} → statement M
+unfolding numbersAt acceptanceGood
 acceptance-fits-spec =
     tie.close
     (tie.spec
@@ -18,4 +15,4 @@ acceptance-fits-spec =
     (λ c κs. search needs)
     (λ c κs. search needs)
     (λ c κs. search needs)
-    returns)
+    (λ c. rw (c .four-fits2 .ensures, c .before .type-good .ensures, c .before .before .one-at .ensures, c .before .before .before .four-fits .ensures, c .before .before .before .before .two-fits .ensures)))

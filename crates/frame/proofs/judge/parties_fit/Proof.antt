@@ -5,15 +5,12 @@ use borrow.Author.Needs.{needs}
 use Rattle.frame.proofs.judge.parties_fit.Statement.{statement}
 use Rattle.frame.proofs.judge.parties_fit.Tie as tie
 
-returns : tie.Need-returns
-unfolding numbersAt partiesGood
-returns c = cc
-
 pub parties-fit-spec : {M : Type 1} → statement M
+unfolding numbersAt partiesGood
 parties-fit-spec =
     tie.close
     (tie.spec
     (λ c κs. search needs)
     (λ c κs. search needs)
     (λ c κs. search needs)
-    returns)
+    (λ c. rw (c .four-fits2 .ensures, c .before .four-fits .ensures, c .before .before .two-fits .ensures)))

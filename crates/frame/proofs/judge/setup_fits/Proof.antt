@@ -5,11 +5,8 @@ use borrow.Author.Needs.{needs}
 use Rattle.frame.proofs.judge.setup_fits.Statement.{statement}
 use Rattle.frame.proofs.judge.setup_fits.Tie as tie
 
-returns : tie.Need-returns
-unfolding numbersAt setupGood
-returns c = cc
-
 pub setup-fits-spec : {M : Type 1} → statement M
+unfolding numbersAt setupGood
 setup-fits-spec =
     tie.close
     (tie.spec
@@ -19,4 +16,4 @@ setup-fits-spec =
     (λ c κs. search needs)
     (λ c κs. search needs)
     (λ c κs. search needs)
-    returns)
+    (λ c. rw (c .pck-good .ensures, c .before .four-at .ensures, c .before .before .type-good .ensures, c .before .before .before .one-at2 .ensures, c .before .before .before .before .flag-good .ensures, c .before .before .before .before .before .one-at .ensures)))

@@ -4,11 +4,8 @@ use borrow.Author.Needs.{needs}
 use Rattle.frame.proofs.range.acceptance_good.Statement.{statement}
 use Rattle.frame.proofs.range.acceptance_good.Tie as tie
 
-returns : tie.Need-returns
-unfolding acceptanceGood
-returns c = cc
-
 pub acceptance-good-spec : {M : Type 1} → statement M
+unfolding acceptanceGood
 acceptance-good-spec =
     tie.close
     (tie.spec
@@ -16,4 +13,4 @@ acceptance-good-spec =
     (λ c κs. search needs)
     (λ c κs. search needs)
     (λ c κs. search needs)
-    returns)
+    (λ c. rw (c .four-good2 .ensures, c .before .type-good .ensures, c .before .before .four-good .ensures, c .before .before .before .two-good .ensures)))

@@ -4,11 +4,8 @@ use borrow.Author.Needs.{needs}
 use Rattle.frame.proofs.range.group_call_good.Statement.{statement}
 use Rattle.frame.proofs.range.group_call_good.Tie as tie
 
-returns : tie.Need-returns
-unfolding groupCallGood
-returns c = cc
-
 pub group-call-good-spec : {M : Type 1} → statement M
+unfolding groupCallGood
 group-call-good-spec =
     tie.close
     (tie.spec
@@ -20,4 +17,4 @@ group-call-good-spec =
     (λ c κs. search needs)
     (λ c κs. search needs)
     (λ c κs. search needs)
-    returns)
+    (λ c. rw (c .four-good3 .ensures, c .before .time-good2 .ensures, c .before .before .time-good .ensures, c .before .before .before .four-good2 .ensures, c .before .before .before .before .two-good2 .ensures, c .before .before .before .before .before .type-good .ensures, c .before .before .before .before .before .before .four-good .ensures, c .before .before .before .before .before .before .before .two-good .ensures)))

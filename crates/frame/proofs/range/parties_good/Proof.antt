@@ -4,15 +4,12 @@ use borrow.Author.Needs.{needs}
 use Rattle.frame.proofs.range.parties_good.Statement.{statement}
 use Rattle.frame.proofs.range.parties_good.Tie as tie
 
-returns : tie.Need-returns
-unfolding partiesGood
-returns c = cc
-
 pub parties-good-spec : {M : Type 1} → statement M
+unfolding partiesGood
 parties-good-spec =
     tie.close
     (tie.spec
     (λ c κs. search needs)
     (λ c κs. search needs)
     (λ c κs. search needs)
-    returns)
+    (λ c. rw (c .four-good2 .ensures, c .before .four-good .ensures, c .before .before .two-good .ensures)))

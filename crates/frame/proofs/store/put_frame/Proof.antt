@@ -1,13 +1,13 @@
 -- `frame::store::put_frame` meets its contract: the parts of each kind, one after the other. Assumes nothing.
 use mathlib.Core.Path.{_≡_}
-use mathlib.Core.List.{append-assoc}
 use Prim.Native.Nat.{_≤_}
 use native.Mathlib.Omega.{arith}
 use lib.ListN.{length}
 use Rattle.frame.specs.Range.{kindOf}
-use Rattle.frame.specs.Layout.{digitsOf, frameInHex}
+use Rattle.frame.specs.Digits.{allInHex}
+use Rattle.frame.specs.Layout.{digitsOf}
 use Rattle.frame.specs.declared.Message.{Message}
-use Rattle.frame.proofs.Stores.{sets-hex, all-cons, all-none}
+use Rattle.frame.proofs.Stores.{sets-hex, sets-frame, all-cons, all-none}
 use borrow.Author.Needs.{needs}
 use Rattle.frame.proofs.store.put_frame.Statement.{statement}
 use Rattle.frame.proofs.store.put_frame.Tie as tie
@@ -17,7 +17,7 @@ room : (c : tie.Start) (m : Message) → c .args .message ≡ m → digitsOf (ki
 room c m e = rw e at (c .pre)
 
 pub put-frame-spec : {M : Type 1} → statement M
-unfolding digitsOf frameInHex
+unfolding digitsOf allInHex
 put-frame-spec =
     tie.close
     (tie.spec
@@ -45,20 +45,20 @@ put-frame-spec =
     (λ c. search needs)
     (λ c κs. omega (arith, room (c .before .before .before .before .before) _ (c .before .before .message9 .given .1)))
     (λ c. search needs)
-    (λ c. rw (c .before .before .put-setup .ensures, c .before .before .before .before .before .before .put-parties .ensures, c .before .before .before .before .before .before .before .before .before .message .given .1) (simp (all-cons, all-none, append-assoc, sets-hex)))
+    (λ c. rw (c .before .before .put-setup .ensures, c .before .before .before .before .before .before .put-parties .ensures, c .before .before .before .before .before .before .before .before .before .message .given .1, ← sets-frame) (simp (all-cons, all-none, sets-hex)))
     (λ c. search needs)
-    (λ c. rw (c .before .before .put-parties2 .ensures, c .before .before .before .before .before .message2 .given .1) (simp (all-cons, all-none, append-assoc, sets-hex)))
+    (λ c. rw (c .before .before .put-parties2 .ensures, c .before .before .before .before .before .message2 .given .1, ← sets-frame))
     (λ c. search needs)
-    (λ c. rw (c .before .before .put-four .ensures, c .before .before .before .before .before .before .put-parties3 .ensures, c .before .before .before .before .before .before .before .before .before .message3 .given .1) (simp (all-cons, all-none, append-assoc, sets-hex)))
+    (λ c. rw (c .before .before .put-four .ensures, c .before .before .before .before .before .before .put-parties3 .ensures, c .before .before .before .before .before .before .before .before .before .message3 .given .1, ← sets-frame))
     (λ c. search needs)
-    (λ c. rw (c .before .before .put-one .ensures, c .before .before .before .before .before .before .put-parties4 .ensures, c .before .before .before .before .before .before .before .before .before .message4 .given .1) (simp (all-cons, all-none, append-assoc, sets-hex)))
+    (λ c. rw (c .before .before .put-one .ensures, c .before .before .before .before .before .before .put-parties4 .ensures, c .before .before .before .before .before .before .before .before .before .message4 .given .1, ← sets-frame) (simp (all-cons, all-none, sets-hex)))
     (λ c. search needs)
-    (λ c. rw (c .before .before .put-parties5 .ensures, c .before .before .before .before .before .message5 .given .1) (simp (all-cons, all-none, append-assoc, sets-hex)))
+    (λ c. rw (c .before .before .put-parties5 .ensures, c .before .before .before .before .before .message5 .given .1, ← sets-frame))
     (λ c. search needs)
-    (λ c. rw (c .before .before .put-parties6 .ensures, c .before .before .before .before .before .message6 .given .1) (simp (all-cons, all-none, append-assoc, sets-hex)))
+    (λ c. rw (c .before .before .put-parties6 .ensures, c .before .before .before .before .before .message6 .given .1, ← sets-frame))
     (λ c. search needs)
-    (λ c. rw (c .before .before .put-parties7 .ensures, c .before .before .before .before .before .message7 .given .1) (simp (all-cons, all-none, append-assoc, sets-hex)))
+    (λ c. rw (c .before .before .put-parties7 .ensures, c .before .before .before .before .before .message7 .given .1, ← sets-frame))
     (λ c. search needs)
-    (λ c. rw (c .before .before .put-group-back .ensures, c .before .before .before .before .before .before .put-four2 .ensures, c .before .before .before .before .before .before .before .before .before .before .put-group-front .ensures, c .before .before .before .before .before .before .before .before .before .before .before .before .before .message8 .given .1) (simp (all-cons, all-none, append-assoc, sets-hex)))
+    (λ c. rw (c .before .before .put-group-back .ensures, c .before .before .before .before .before .before .put-four2 .ensures, c .before .before .before .before .before .before .before .before .before .before .put-group-front .ensures, c .before .before .before .before .before .before .before .before .before .before .before .before .before .message8 .given .1, ← sets-frame))
     (λ c. search needs)
-    (λ c. rw (c .before .before .put-acceptance .ensures, c .before .before .before .before .before .message9 .given .1) (simp (all-cons, all-none, append-assoc, sets-hex))))
+    (λ c. rw (c .before .before .put-acceptance .ensures, c .before .before .before .before .before .message9 .given .1, ← sets-frame)))

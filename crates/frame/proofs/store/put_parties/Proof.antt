@@ -1,13 +1,8 @@
 -- `frame::store::put_parties` meets its contract: each field at its place. Assumes nothing.
-use Rattle.frame.specs.Digits.{allInHex}
-use Rattle.frame.proofs.Stores.{sets-hex}
+use Rattle.frame.proofs.Stores.{sets-hex, all-cons, all-none}
 use borrow.Author.Needs.{needs}
 use Rattle.frame.proofs.store.put_parties.Statement.{statement}
 use Rattle.frame.proofs.store.put_parties.Tie as tie
-
-returns : tie.Need-returns
-unfolding allInHex
-returns c = simp sets-hex (cc)
 
 pub put-parties-spec : {M : Type 1} → statement M
 put-parties-spec =
@@ -18,4 +13,4 @@ put-parties-spec =
     (λ c κs. search needs)
     (λ c κs. search needs)
     (λ c. search needs)
-    returns)
+    (λ c. rw (c .before .before .put-four2 .ensures, c .before .before .before .before .before .before .put-four .ensures, c .before .before .before .before .before .before .before .before .before .before .put-two .ensures, c .before .before .before .before .before .before .before .before .before .before .before .before .before .before .put-one .ensures) (simp (all-cons, all-none, sets-hex))))

@@ -1,0 +1,4 @@
+pub mod OneAnswer
+pub mod MarkedCases
+pub mod Reflects
+pub mod Tables

@@ -1,0 +1,57 @@
+-- The numbers handed back, each with its condition in the order of the tests. Assumes nothing.
+use mathlib.Core.Path.{_≡_}
+use mathlib.Core.Logic.{_⊎_, _↔_}
+use mathlib.Core.List.{List, [], _∷_}
+use mathlib.Core.Bool.{false}
+use Prim.Native.Nat.{ℕ, suc, _*_, _-_, _<_, _≤_}
+use lib.ListN.{length, getD}
+use Rattle.frame.specs.Range.{inRange}
+use Rattle.frame.specs.Layout.{lineOf}
+use Rattle.frame.specs.Line.{messageAt, mediaAt, kindAt}
+use Rattle.frame.specs.declared.Media.{Media}
+use Rattle.frame.specs.declared.Message.{Message}
+
+-- ---- what it is for a number to be given exactly when
+
+-- Each number of a table is given exactly when its condition holds and none before it, and 0 exactly when none does.
+unfoldable pub ExactlyWhen : ℕ → Type 0 → List (ℕ × Type 0) → Type 0
+ExactlyWhen given before [] = (given ≡ 0) ↔ before
+ExactlyWhen given before (row ∷ rows) =
+    ((given ≡ row .0) ↔ (before × row .1)) × ExactlyWhen given (before × (row .1 → ⊥)) rows
+
+-- ---- a line
+
+abbrev pub IsDigit : ℕ → Type 0
+IsDigit x = ((48 ≤ x) × (x ≤ 57)) ⊎ ((97 ≤ x) × (x ≤ 102))
+
+-- the bytes of a frame of each kind, from kind 0, which is none, to kind 9
+abbrev pub totals : List ℕ
+totals = 0 ∷ 21 ∷ 11 ∷ 15 ∷ 12 ∷ 11 ∷ 11 ∷ 11 ∷ 31 ∷ 12 ∷ []
+
+-- 1: the line is empty, or its last byte is not 0A
+abbrev pub Unended : List ℕ → Type 0
+Unended l = (l ≡ []) ⊎ (getD l (length l - 1) 0 ≡ 10 → ⊥)
+
+-- 2: a byte before the last is not 0-9 or a-f
+abbrev pub Undigital : List ℕ → Type 0
+Undigital l = (i : ℕ) × (suc i < length l) × (IsDigit (getD l i 0) → ⊥)
+
+-- 3: fewer than two digits, or the kind is not 01 to 09
+abbrev pub Unkind : List ℕ → Type 0
+Unkind l = (length l - 1 < 2) ⊎ ((1 ≤ kindAt l) × (kindAt l ≤ 9) → ⊥)
+
+-- 4: the digit count is not the kind's, two a byte
+abbrev pub Misfit : List ℕ → Type 0
+Misfit l = length l - 1 ≡ 2 * getD totals (kindAt l) 0 → ⊥
+
+-- 5: a field outside its range
+abbrev pub Unranged : List ℕ → Type 0
+Unranged l = inRange (messageAt (kindAt l) l) (mediaAt (kindAt l) l) ≡ false
+
+abbrev pub lineTable : List ℕ → List (ℕ × Type 0)
+lineTable l = (1, Unended l) ∷ (2, Undigital l) ∷ (3, Unkind l) ∷ (4, Misfit l) ∷ (5, Unranged l) ∷ []
+
+-- ---- a frame to write: 5, a field outside its range; 6, the lent buffer is shorter than the line
+
+abbrev pub writeTable : Message → Media → List ℕ → List (ℕ × Type 0)
+writeTable m media out = (5, inRange m media ≡ false) ∷ (6, length out < length (lineOf m media)) ∷ []

@@ -1,1 +1,132 @@
--- later
+-- The numbers 1 to 6 are given exactly when, in the order told. Assumes nothing.
+use mathlib.Core.Path.{_≡_, refl, sym, ap, _∙_}
+use mathlib.Core.Logic.{_⊎_, inl, inr, ⊎-elim, _↔_, Iff·trans}
+use mathlib.Core.List.{List, [], _∷_}
+use mathlib.Core.Bool.{Bool, true, false, not, _&&_, _||_, true≢false}
+use Prim.Native.Nat.{ℕ, zero, suc, _+_, _*_, _-_, _<_, _≤_, zero-le}
+use native.Mathlib.Nat.{le-of-suc-le-suc, not-suc-le-zero}
+use native.Mathlib.Omega.{arith}
+use lib.ListN.{length, take, getD}
+use lib.Dec.{ltb, leb, eqb}
+use borrow.Author.Tests.{not-true}
+use Rattle.frame.specs.Digits.{isDigit, allDigits}
+use Rattle.frame.specs.Range.{within, inRange}
+use Rattle.frame.specs.Layout.{digitsOf, lineOf}
+use Rattle.frame.specs.Line.{messageAt, mediaAt, count, kindAt, unended, undigital, unkind, misfit, unranged, refusalOf, lineNumber}
+use Rattle.frame.specs.Writing.{writeNumber}
+use Rattle.frame.specs.declared.Media.{Media}
+use Rattle.frame.specs.declared.Message.{Message}
+use Rattle.frame.proofs.NineKinds.{nine}
+use Rattle.frame.proofs.Judged.{not-all}
+use Rattle.demands.specs.ExactlyWhen.{ExactlyWhen, IsDigit, totals, Unended, Undigital, Unkind, Misfit, Unranged, lineTable, writeTable}
+use Rattle.demands.proofs.Reflects.{Reflects, true-reflects, leb-reflects, ltb-reflects, eqb-reflects, not-reflects, and-reflects, or-reflects}
+use Rattle.demands.proofs.Tables.{Row, Right, table-exactly}
+
+-- ---- 1
+
+empty-reflects : (l : List ℕ) → Reflects (eqb (length l) 0) (l ≡ [])
+empty-reflects l = Iff·trans (eqb-reflects (length l) 0) (none l, λ e. ap length e)
+  where
+    none : (k : List ℕ) → length k ≡ 0 → k ≡ []
+    none [] e = refl
+    none (x ∷ k) e = let z : ⊥ = omega arith in absurd z
+
+unended-reflects : (l : List ℕ) → Reflects (unended l) (Unended l)
+unended-reflects l =
+    or-reflects (eqb (length l) 0) (not (eqb (getD l (count l) 0) 10)) (empty-reflects l)
+    (not-reflects (eqb (getD l (count l) 0) 10) (eqb-reflects (getD l (count l) 0) 10))
+
+-- ---- 2
+
+digit-reflects : (x : ℕ) → Reflects (isDigit x) (IsDigit x)
+digit-reflects x =
+    or-reflects (leb 48 x && leb x 57) (leb 97 x && leb x 102)
+    (and-reflects (leb 48 x) (leb x 57) (leb-reflects 48 x) (leb-reflects x 57))
+    (and-reflects (leb 97 x) (leb x 102) (leb-reflects 97 x) (leb-reflects x 102))
+
+-- the first byte that is no digit
+found : (l : List ℕ) (n : ℕ) → n ≤ length l → allDigits (take n l) ≡ false → (i : ℕ) × (i < n) × (isDigit (getD l i 0) ≡ false)
+unfolding allDigits
+found l zero h e = absurd (true≢false e)
+found [] (suc n) h e = absurd (not-suc-le-zero h)
+found (x ∷ l) (suc n) h e = go (isDigit x) refl e (found l n (le-of-suc-le-suc h))
+  where
+    go : (b : Bool) → isDigit x ≡ b → (b && allDigits (take n l)) ≡ false
+        → (allDigits (take n l) ≡ false → (i : ℕ) × (i < n) × (isDigit (getD l i 0) ≡ false))
+        → (i : ℕ) × (i < suc n) × (isDigit (getD (x ∷ l) i 0) ≡ false)
+    go true t f r = let p = r f in let h : p .0 < n = p .1 in (suc (p .0), omega arith, p .2)
+    go false t f r = (0, omega arith, t)
+
+undigital-reflects : (l : List ℕ) → Reflects (undigital l) (Undigital l)
+undigital-reflects l = (
+  λ e.
+      let p = found l (count l) (omega arith) (not-true _ e) in
+      let h : p .0 < count l = p .1 in (p .0, omega arith, true-reflects (digit-reflects _) (p .2)),
+  λ p.
+      let h : suc (p .0) < length l = p .1 in
+      ap not (not-all l (count l) (p .0) (none (isDigit (getD l (p .0) 0)) refl (p .2)) (omega arith) (omega arith)),
+)
+  where
+    none : (b : Bool) {x : ℕ} → isDigit x ≡ b → (IsDigit x → ⊥) → isDigit x ≡ false
+    none true t f = absurd (f (digit-reflects _ .0 t))
+    none false t f = t
+
+-- ---- 3, 4, 5
+
+unkind-reflects : (l : List ℕ) → Reflects (unkind l) (Unkind l)
+unkind-reflects l =
+    or-reflects (ltb (count l) 2) (not (within 1 (kindAt l) 9)) (ltb-reflects (count l) 2)
+    (not-reflects (within 1 (kindAt l) 9)
+    (and-reflects (leb 1 (kindAt l)) (leb (kindAt l) 9) (leb-reflects 1 (kindAt l)) (leb-reflects (kindAt l) 9)))
+
+-- the layouts add up to the totals
+total : (k : ℕ) → 1 ≤ k → k ≤ 9 → digitsOf k ≡ 2 * getD totals k 0
+unfolding digitsOf
+total = nine (λ (k : ℕ). digitsOf k ≡ 2 * getD totals k 0) refl refl refl refl refl refl refl refl refl
+
+known : (l : List ℕ) → (Unkind l → ⊥) → (1 ≤ kindAt l) × (kindAt l ≤ 9)
+known l f = go (within 1 (kindAt l) 9) refl
+  where
+    here : Reflects (within 1 (kindAt l) 9) ((1 ≤ kindAt l) × (kindAt l ≤ 9))
+    here = and-reflects (leb 1 (kindAt l)) (leb (kindAt l) 9) (leb-reflects 1 (kindAt l)) (leb-reflects (kindAt l) 9)
+
+    go : (b : Bool) → within 1 (kindAt l) 9 ≡ b → (1 ≤ kindAt l) × (kindAt l ≤ 9)
+    go true e = here .0 e
+    go false e = absurd (f (inr (true-reflects here e)))
+
+misfit-reflects : (l : List ℕ) → (Unkind l → ⊥) → Reflects (misfit l) (Misfit l)
+misfit-reflects l f =
+    let k = known l f in
+    not-reflects (eqb (count l) (digitsOf (kindAt l))) (rw (total (kindAt l) (k .0) (k .1)) (eqb-reflects (count l) (2 * getD totals (kindAt l) 0)))
+
+false-reflects : (b : Bool) → Reflects (not b) (b ≡ false)
+false-reflects b = (not-true b, λ e. ap not e)
+
+-- ---- the theorems
+
+-- the reader: 1 to 5
+pub line-exactly-when : (l : List ℕ) → ExactlyWhen (lineNumber l) (Unit {0}) (lineTable l)
+unfolding refusalOf
+line-exactly-when l = table-exactly rows refl right
+  where
+    rows : List Row
+    rows =
+        (1, unended l, Unended l) ∷ (2, undigital l, Undigital l) ∷ (3, unkind l, Unkind l) ∷ (4, misfit l, Misfit l)
+        ∷ (5, unranged l, Unranged l) ∷ []
+
+    right : Right (Unit {0}) rows
+    right =
+        (λ b. unended-reflects l, (λ b. undigital-reflects l, (λ b. unkind-reflects l, (λ b. misfit-reflects l (b .1), (λ b. false-reflects _, tt)))))
+
+-- the writer: 5, then 6
+pub write-exactly-when : (m : Message) (media : Media) (out : List ℕ) → ExactlyWhen (writeNumber m media out) (Unit {0}) (writeTable m media out)
+unfolding writeNumber
+write-exactly-when m media out = table-exactly rows refl right
+  where
+    rows : List Row
+    rows =
+        (5, not (inRange m media), inRange m media ≡ false)
+        ∷ (6, ltb (length out) (length (lineOf m media)), length out < length (lineOf m media)) ∷ []
+
+    right : Right (Unit {0}) rows
+    right = (λ b. false-reflects (inRange m media), (λ b. ltb-reflects (length out) (length (lineOf m media)), tt))

@@ -52,7 +52,7 @@ given-among (r ∷ rows) = go (r .1) (given-among rows)
     go false h = inr h
 
 unequal : (m n : ℕ) → not (eqb m n) ≡ true → m ≡ n → ⊥
-unequal m n e h = true≢false (sym (ap not (eq-eqb m n h) ∙ sym (ap not (eq-eqb m n h)) ∙ e) ∙ ap not (eq-eqb m n h))
+unequal m n e h = true≢false (sym e ∙ ap not (eq-eqb m n h))
 
 fresh-apart : (n k : ℕ) (rows : List Row) → fresh k rows ≡ true → Among n rows → n ≡ k → ⊥
 unfolding Among
@@ -62,15 +62,16 @@ fresh-apart n k (r ∷ rows) e m h =
     ⊎-elim (λ x. unequal k (r .0) (p .0) (sym h ∙ x)) (λ x. fresh-apart n k rows (p .1) x h) m
 
 -- where nothing before holds the table gives the number, and wherever one of its numbers or 0 is given nothing before holds
-pub exactly : (rows : List Row) (given : ℕ) (before : Type 0) → apart rows ≡ true → Right before rows
+exactly : (rows : List Row) (given : ℕ) (before : Type 0) → apart rows ≡ true → Right before rows
     → (before → given ≡ firstGiven (tests rows)) → ((n : ℕ) → Among n rows → given ≡ n → before) → ExactlyWhen given before (conditions rows)
 unfolding ExactlyWhen Among
 exactly [] given before a r h k = (λ e. k 0 refl e, h)
 exactly (row ∷ rows) given before a r h k =
-    let p = and-split (fresh (row .0) rows) (apart rows) a in
-    ((λ e. (k (row .0) (inl refl) e, holds (row .1) refl (k (row .0) (inl refl) e) (p .0) e), λ x. taken (x .0) (r .0 (x .0) .1 (x .1))),
-    exactly rows given (before × (row .2 → ⊥)) (p .1) (r .1) (λ x. passed (row .1) refl (x .0) (x .1))
-    (λ n m e. (k n (inr m) e, λ x. fresh-apart n (row .0) rows (p .0) m (sym e ∙ taken (k n (inr m) e) (r .0 (k n (inr m) e) .1 x)))))
+    let p = and-split (fresh (row .0) rows) (apart rows) a in (
+      (λ e. (k (row .0) (inl refl) e, holds (row .1) refl (k (row .0) (inl refl) e) (p .0) e), λ x. taken (x .0) (r .0 (x .0) .1 (x .1))),
+      exactly rows given (before × (row .2 → ⊥)) (p .1) (r .1) (λ x. passed (row .1) refl (x .0) (x .1))
+          (λ n m e. (k n (inr m) e, λ x. fresh-apart n (row .0) rows (p .0) m (sym e ∙ taken (k n (inr m) e) (r .0 (k n (inr m) e) .1 x)))),
+    )
   where
     taken : before → row .1 ≡ true → given ≡ row .0
     taken b t = h b ∙ ap (λ (c : Bool). cond c (row .0) (firstGiven (tests rows))) t
@@ -85,3 +86,7 @@ exactly (row ∷ rows) given before a r h k =
     holds : (c : Bool) → row .1 ≡ c → before → fresh (row .0) rows ≡ true → given ≡ row .0 → row .2
     holds true t b f e = r .0 b .0 t
     holds false t b f e = absurd (fresh-apart (firstGiven (tests rows)) (row .0) rows f (given-among rows) (sym (left b t) ∙ e))
+
+-- a table of tests that stand for their conditions gives each number exactly when
+pub table-exactly : (rows : List Row) → apart rows ≡ true → Right (Unit {0}) rows → ExactlyWhen (firstGiven (tests rows)) (Unit {0}) (conditions rows)
+table-exactly rows a r = exactly rows (firstGiven (tests rows)) (Unit {0}) a r (λ b. refl) (λ n m e. tt)

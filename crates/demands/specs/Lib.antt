@@ -1,3 +1,4 @@
 pub mod Text
 pub mod ExactlyWhen
 pub mod MarkedCases
+pub mod NothingChanges

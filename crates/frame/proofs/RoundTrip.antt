@@ -13,7 +13,7 @@ use borrow.Author.Tests.{le-ltb, eq-eqb, ne-eqb, eqb-true, leb-true, leb-false}
 use Rattle.frame.specs.Digits.{isDigit, allDigits, four, digitCount, size, inHex, numberAt, numbersAt, total, allInHex, largest}
 use Rattle.frame.specs.Range.{within, neverZero, kindOf, carries, mediaGood, noMedia, mediaOf, messageGood, inRange, GoodFrame}
 use Rattle.frame.specs.Layout.{front, back, mediaPlace, mediaCount, backPlace, digitsOf, frontFields, frontOf, backOf, mediaInHex, frameInHex, lineOf}
-use Rattle.frame.specs.Line.{messageOf, messageAt, mediaAt, count, kindAt, refusalOf, reading, refusal, readLine}
+use Rattle.frame.specs.Line.{messageOf, messageAt, mediaAt, count, kindAt, refusalOf, numberOf, valuesOf, reading, refusal, readLine, lineNumber, lineMessage}
 use Rattle.frame.specs.declared.Media.{Media}
 use Rattle.frame.specs.declared.Message.{Message}
 use Rattle.frame.specs.declared.Message.the-variants.{SetupRequest, Ringing, Accept, Reject, Release, ReleaseAck, AcceptAck, Announcement, GroupAccept}
@@ -223,7 +223,28 @@ line-is-the-only-one l m media e = go (eqb (refusalOf l) 0) refl e
         let z : _≡_ {A = ℕ} 0 1 = cc in
         let w : ⊥ = omega arith in absurd w
 
--- ---- the line end, and the longest line
+-- ---- the reader's answer, case by case
+
+-- its number is the line's
+pub number-read : (l : List ℕ) → numberOf (lineMessage l) ≡ lineNumber l
+unfolding readLine
+number-read l = go (eqb (refusalOf l) 0) refl
+  where
+    go : (b : Bool) → eqb (refusalOf l) 0 ≡ b
+        → numberOf ((cond b (reading (messageAt (kindAt l) l) (mediaAt (kindAt l) l)) (refusal (refusalOf l))) .read) ≡ refusalOf l
+    go true e = sym (eqb-true _ _ e)
+    go false e = refl
+
+-- its values are the numbers that stand in the line, in the layout's order
+pub values-read : (l : List ℕ) → refusalOf l ≡ 0
+    → valuesOf (lineMessage l) ≡ numbersAt (front (kindAt l)) l 0 ++ numbersAt (back (kindAt l)) l (backPlace (kindAt l))
+unfolding readLine Made numbersAt
+values-read l e =
+    let m = is-made l (accepted l e) in
+    ap (λ (b : Bool). valuesOf ((cond b (reading (messageAt (kindAt l) l) (mediaAt (kindAt l) l)) (refusal (refusalOf l))) .read)) (eq-eqb _ _ e)
+    ∙ (ap₂ _++_ (ap₂ (λ (x : ℕ) (xs : List ℕ). x ∷ xs) (m .0) (m .1)) (m .2))
+
+-- ---- the line end
 
 -- a readable line has one 0A, its last byte
 pub one-line-end : (l : List ℕ) → refusalOf l ≡ 0 → (i : ℕ) → i < length l → (getD l i 0 ≡ 10) ↔ (suc i ≡ length l)

@@ -31,6 +31,7 @@ pub data Width : Type 0 where
   one : Width
   twice : Width → Width
 
+-- two bytes, and four
 abbrev pub two : Width
 two = twice one
 

@@ -7,6 +7,8 @@ use Rattle.frame.specs.Digits.{Width, one, two, four, digitCount, inHex,
 use Rattle.frame.specs.Range.{kindOf, carries}
 use Rattle.frame.specs.declared.Media.{Media}
 use Rattle.frame.specs.declared.Parties.{Parties}
+use Rattle.frame.specs.declared.GroupCall.{GroupCall}
+use Rattle.frame.specs.declared.Acceptance.{Acceptance}
 use Rattle.frame.specs.declared.Message.{Message}
 use Rattle.frame.specs.declared.Message.the-variants.{SetupRequest, Ringing, Accept, Reject, Release, ReleaseAck, AcceptAck, Announcement, GroupAccept}
 
@@ -21,14 +23,15 @@ front kind =
     (cond (eqb kind 8) (four ∷ one ∷ two ∷ [])
     (cond (eqb kind 9) (four ∷ one ∷ four ∷ []) (four ∷ four ∷ []))))
 
--- the widths after it
+-- the widths after the media
 abbrev pub back : ℕ → List Width
 back kind = cond (eqb kind 1) (four ∷ []) (cond (eqb kind 8) (four ∷ four ∷ four ∷ four ∷ one ∷ []) [])
 
--- the place where the media's digits start, and how many they are
+-- the place where the media's digits start
 abbrev pub mediaPlace : ℕ → ℕ
 mediaPlace kind = total (front kind)
 
+-- how many digits the media has
 abbrev pub mediaCount : ℕ → ℕ
 mediaCount kind = cond (carries kind) (digitCount four) 0
 
@@ -42,8 +45,21 @@ digitsOf kind = backPlace kind + total (back kind)
 
 -- ---- the fields in the layout's order
 
+-- a private call's fields, then what follows them
 abbrev pub partiesThen : Parties → List ℕ → List ℕ
 partiesThen p rest = p .identifier ∷ p .caller ∷ p .callee ∷ rest
+
+-- a group call's fields before the media
+abbrev pub groupFront : GroupCall → List ℕ
+groupFront c = c .identifier ∷ c .group ∷ c .«call_type» ∷ c .refresh ∷ []
+
+-- a group call's fields after the media, and the confirm
+abbrev pub groupBack : GroupCall → ℕ → List ℕ
+groupBack c confirm = c .originator ∷ c .start ∷ c .«last_change» ∷ c .«last_changer» ∷ confirm ∷ []
+
+-- a group call accept's fields
+abbrev pub acceptanceThen : Acceptance → List ℕ
+acceptanceThen a = a .identifier ∷ a .sender ∷ a .«call_type» ∷ a .group ∷ []
 
 -- the fields before the media, behind the kind
 abbrev pub frontFields : Message → List ℕ
@@ -54,13 +70,14 @@ frontFields (Reject p reason) = partiesThen p (reason ∷ [])
 frontFields (Release p) = partiesThen p []
 frontFields (ReleaseAck p) = partiesThen p []
 frontFields (AcceptAck p) = partiesThen p []
-frontFields (Announcement c confirm) = c .identifier ∷ c .group ∷ c .«call_type» ∷ c .refresh ∷ []
-frontFields (GroupAccept a) = a .identifier ∷ a .sender ∷ a .«call_type» ∷ a .group ∷ []
+frontFields (Announcement c confirm) = groupFront c
+frontFields (GroupAccept a) = acceptanceThen a
 
+-- the kind and the fields before the media
 abbrev pub frontOf : Message → List ℕ
 frontOf m = kindOf m ∷ frontFields m
 
--- the fields after it
+-- the fields after the media
 abbrev pub backOf : Message → List ℕ
 backOf (SetupRequest p s) = s .«pck_id» ∷ []
 backOf (Ringing p) = []
@@ -69,7 +86,7 @@ backOf (Reject p reason) = []
 backOf (Release p) = []
 backOf (ReleaseAck p) = []
 backOf (AcceptAck p) = []
-backOf (Announcement c confirm) = c .originator ∷ c .start ∷ c .«last_change» ∷ c .«last_changer» ∷ confirm ∷ []
+backOf (Announcement c confirm) = groupBack c confirm
 backOf (GroupAccept a) = []
 
 -- ---- the line

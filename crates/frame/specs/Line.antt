@@ -22,13 +22,15 @@ use Rattle.frame.specs.declared.Reading.{Reading}
 
 -- ---- the frame whose digits a line holds
 
--- a struct from the numbers of a layout's front and back
+-- a private call from the numbers of a front
 abbrev pub partiesOf : List ℕ → Parties
 partiesOf f = record { identifier = getD f 1 0; caller = getD f 2 0; callee = getD f 3 0 }
 
+-- a setup from the numbers of a front and a back
 abbrev pub setupOf : List ℕ → List ℕ → Setup
 setupOf f b = record { commencement = getD f 4 0; «call_type» = getD f 5 0; «pck_id» = getD b 0 0 }
 
+-- a group call from the numbers of a front and a back
 abbrev pub groupCallOf : List ℕ → List ℕ → GroupCall
 groupCallOf f b =
     record {
@@ -42,8 +44,22 @@ groupCallOf f b =
       «last_changer» = getD b 3 0;
     }
 
+-- an acceptance from the numbers of a front
 abbrev pub acceptanceOf : List ℕ → Acceptance
 acceptanceOf f = record { identifier = getD f 1 0; sender = getD f 2 0; «call_type» = getD f 3 0; group = getD f 4 0 }
+
+-- the same, from the digits of a line; the back's stand from place `at` on
+abbrev pub partiesAt : List ℕ → Parties
+partiesAt l = partiesOf (numbersAt (front 2) l 0)
+
+abbrev pub setupAt : List ℕ → ℕ → Setup
+setupAt l at = setupOf (numbersAt (front 1) l 0) (numbersAt (back 1) l at)
+
+abbrev pub groupCallAt : List ℕ → ℕ → GroupCall
+groupCallAt l at = groupCallOf (numbersAt (front 8) l 0) (numbersAt (back 8) l at)
+
+abbrev pub acceptanceAt : List ℕ → Acceptance
+acceptanceAt l = acceptanceOf (numbersAt (front 9) l 0)
 
 -- the message of a kind from 1 to 9 with these numbers
 abbrev pub messageOf : ℕ → List ℕ → List ℕ → Message
@@ -58,10 +74,11 @@ messageOf kind f b =
     (cond (eqb kind 8) (Announcement (groupCallOf f b) (getD b 4 0))
     (GroupAccept (acceptanceOf f)))))))))
 
--- the message and the media whose digits stand in l
+-- the message whose digits stand in l
 unfoldable pub messageAt : ℕ → List ℕ → Message
 messageAt kind l = messageOf kind (numbersAt (front kind) l 0) (numbersAt (back kind) l (backPlace kind))
 
+-- the media whose digits stand in l, none where the kind carries none
 unfoldable pub mediaAt : ℕ → List ℕ → Media
 mediaAt kind l = cond (carries kind) (record { number = numberAt four l (mediaPlace kind) }) noMedia
 
@@ -105,11 +122,12 @@ refusalOf l = firstGiven ((1, unended l) ∷ (2, undigital l) ∷ (3, unkind l) 
 
 -- ---- the reader's answer
 
--- the number of an answer, and the fields that it hands over, kind first: none where it refuses
+-- the number of each answer: 0 with a message, else the one that it names
 abbrev pub numberOf : Read → ℕ
 numberOf (Readable m) = 0
 numberOf (Refused n) = n
 
+-- the values of each answer: the message's fields in their order, kind first; none where it refuses
 abbrev pub valuesOf : Read → List ℕ
 valuesOf (Readable m) = frontOf m ++ backOf m
 valuesOf (Refused n) = []
@@ -127,9 +145,10 @@ unfoldable pub readLine : List ℕ → Reading
 readLine l =
     cond (eqb (refusalOf l) 0) (reading (messageAt (kindAt l) l) (mediaAt (kindAt l) l)) (refusal (refusalOf l))
 
--- what whoever has no settings asks of a line: its number, and its message where that is 0
+-- the number of a line, for whoever has no settings
 abbrev pub lineNumber : List ℕ → ℕ
 lineNumber l = refusalOf l
 
+-- the message of a line or the number that refuses it, for whoever has no settings
 abbrev pub lineMessage : List ℕ → Read
 lineMessage l = readLine l .read

@@ -1,4 +1,4 @@
--- The range of every field. Assumes nothing.
+-- The range of every field, and what a good frame is. Assumes nothing.
 use Prim.Native.Nat.{ℕ, _/_}
 use mathlib.Core.Path.{_≡_}
 use mathlib.Core.Bool.{Bool, true, not, _&&_, _||_, cond}
@@ -14,6 +14,7 @@ use Rattle.frame.specs.declared.Message.the-variants.{SetupRequest, Ring
 
 -- ---- a field
 
+-- from low to high, both included
 abbrev pub within : ℕ → ℕ → ℕ → Bool
 within low v high = leb low v && leb v high
 
@@ -49,7 +50,7 @@ mediaGood m = neverZero four (m .number)
 abbrev pub noMedia : Media
 noMedia = record { number = 0 }
 
--- ---- a message
+-- ---- a message and its media
 
 -- the kinds 01 to 09
 abbrev pub kindOf : Message → ℕ
@@ -67,12 +68,15 @@ kindOf (GroupAccept a) = 9
 abbrev pub carries : ℕ → Bool
 carries kind = eqb kind 1 || (eqb kind 3 || eqb kind 8)
 
+-- the fields of a private call
 unfoldable pub partiesGood : Parties → Bool
 partiesGood p = neverZero two (p .identifier) && (neverZero four (p .caller) && neverZero four (p .callee))
 
+-- what a setup request says besides
 unfoldable pub setupGood : Setup → Bool
 setupGood s = flagGood (s .commencement) && (typeGood 1 (s .«call_type») && pckGood (s .«pck_id»))
 
+-- the fields of a group call, its media beside it
 unfoldable pub groupCallGood : GroupCall → Bool
 groupCallGood c =
     neverZero two (c .identifier)
@@ -82,10 +86,12 @@ groupCallGood c =
     && (neverZero four (c .originator)
     && (timeGood (c .start) && (timeGood (c .«last_change») && neverZero four (c .«last_changer»)))))))
 
+-- the fields of a group call accept
 unfoldable pub acceptanceGood : Acceptance → Bool
 acceptanceGood a =
     neverZero two (a .identifier) && (neverZero four (a .sender) && (typeGood 9 (a .«call_type») && neverZero four (a .group)))
 
+-- the fields of each kind
 abbrev pub messageGood : Message → Bool
 messageGood (SetupRequest p s) = partiesGood p && setupGood s
 messageGood (Ringing p) = partiesGood p

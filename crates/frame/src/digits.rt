@@ -36,7 +36,7 @@ pub(crate) fn value_of(x: u8) -> u8
     (x % 16 + 9) % 16
 }
 
-// The numbers of one, two and four bytes whose digits stand from place at on.
+// The number of one byte whose digits stand from place at on.
 pub(crate) fn one_at(line: &[u8], at: usize) -> u8
     requires { ⌜ at + 2 ≤ length (now line) ⌝ }
     ensures { λ r. ⌜ r ≡ numberAt one (now (line .entry)) at ⌝ }
@@ -46,6 +46,7 @@ pub(crate) fn one_at(line: &[u8], at: usize) -> u8
     high * 16 + low
 }
 
+// The number of two bytes.
 pub(crate) fn two_at(line: &[u8], at: usize) -> u16
     requires { ⌜ at + 4 ≤ length (now line) ⌝ }
     ensures { λ r. ⌜ r ≡ numberAt two (now (line .entry)) at ⌝ }
@@ -55,6 +56,7 @@ pub(crate) fn two_at(line: &[u8], at: usize) -> u16
     (high as u16) * 256 + (low as u16)
 }
 
+// The number of four bytes.
 pub(crate) fn four_at(line: &[u8], at: usize) -> u32
     requires { ⌜ at + 8 ≤ length (now line) ⌝ }
     ensures { λ r. ⌜ r ≡ numberAt four (now (line .entry)) at ⌝ }

@@ -11,10 +11,9 @@ use crate::digits::two_at;
 ghost use mathlib.Core.Path.{_≡_};
 ghost use Prim.Native.Nat.{_+_, _≤_};
 ghost use lib.ListN.{length};
-ghost use Rattle.frame.specs.Digits.{numbersAt};
 ghost use Rattle.frame.specs.Range.{kindOf};
-ghost use Rattle.frame.specs.Layout.{front, back, digitsOf};
-ghost use Rattle.frame.specs.Line.{partiesOf, setupOf, groupCallOf, acceptanceOf, messageAt, mediaAt};
+ghost use Rattle.frame.specs.Layout.{digitsOf};
+ghost use Rattle.frame.specs.Line.{partiesAt, setupAt, groupCallAt, acceptanceAt, messageAt, mediaAt};
 
 // The kind of a message, 1 to 9.
 pub(crate) fn kind_of(message: Message) -> u8
@@ -47,9 +46,10 @@ pub(crate) fn digits_of(kind: u8) -> usize
     }
 }
 
+// The fields of a private call.
 fn parties_at(line: &[u8]) -> Parties
     requires { ⌜ 22 ≤ length (now line) ⌝ }
-    ensures { λ r. ⌜ r ≡ partiesOf (numbersAt (front 2) (now (line .entry)) 0) ⌝ }
+    ensures { λ r. ⌜ r ≡ partiesAt (now (line .entry)) ⌝ }
 {
     Parties {
         identifier: two_at(line, 2),
@@ -61,7 +61,7 @@ fn parties_at(line: &[u8]) -> Parties
 // A setup's fields: those after the media stand from place at on.
 fn setup_at(line: &[u8], at: usize) -> Setup
     requires { ⌜ (26 ≤ length (now line)) × (at + 8 ≤ length (now line)) ⌝ }
-    ensures { λ r. ⌜ r ≡ setupOf (numbersAt (front 1) (now (line .entry)) 0) (numbersAt (back 1) (now (line .entry)) at) ⌝ }
+    ensures { λ r. ⌜ r ≡ setupAt (now (line .entry)) at ⌝ }
 {
     Setup {
         commencement: one_at(line, 22),
@@ -73,7 +73,7 @@ fn setup_at(line: &[u8], at: usize) -> Setup
 // A group call's fields: those after the media stand from place at on.
 fn group_call_at(line: &[u8], at: usize) -> GroupCall
     requires { ⌜ (20 ≤ length (now line)) × (at + 34 ≤ length (now line)) ⌝ }
-    ensures { λ r. ⌜ r ≡ groupCallOf (numbersAt (front 8) (now (line .entry)) 0) (numbersAt (back 8) (now (line .entry)) at) ⌝ }
+    ensures { λ r. ⌜ r ≡ groupCallAt (now (line .entry)) at ⌝ }
 {
     GroupCall {
         identifier: two_at(line, 2),
@@ -87,9 +87,10 @@ fn group_call_at(line: &[u8], at: usize) -> GroupCall
     }
 }
 
+// The fields of a group call accept.
 fn acceptance_at(line: &[u8]) -> Acceptance
     requires { ⌜ 24 ≤ length (now line) ⌝ }
-    ensures { λ r. ⌜ r ≡ acceptanceOf (numbersAt (front 9) (now (line .entry)) 0) ⌝ }
+    ensures { λ r. ⌜ r ≡ acceptanceAt (now (line .entry)) ⌝ }
 {
     Acceptance {
         identifier: two_at(line, 2),

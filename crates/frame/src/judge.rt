@@ -7,15 +7,14 @@ use crate::range::reason_good;
 use crate::range::time_good;
 use crate::range::type_good;
 ghost use mathlib.Core.Path.{_≡_};
-ghost use mathlib.Core.Bool.{true};
-ghost use Prim.Native.Nat.{_+_, _-_, _<_, _≤_};
-ghost use lib.ListN.{length, take};
-ghost use Rattle.frame.specs.Digits.{allDigits, one, two, four, numberAt, numbersAt};
+ghost use Prim.Native.Nat.{_+_, _<_, _≤_};
+ghost use lib.ListN.{length};
+ghost use Rattle.frame.specs.Digits.{one, two, four, numberAt};
 ghost use Rattle.frame.specs.Range.{neverZero, partiesGood, setupGood, groupCallGood, acceptanceGood, inRange};
-ghost use Rattle.frame.specs.Layout.{front, back, digitsOf};
-ghost use Rattle.frame.specs.Line.{partiesOf, setupOf, groupCallOf, acceptanceOf, messageAt, mediaAt, Digital};
+ghost use Rattle.frame.specs.Layout.{digitsOf};
+ghost use Rattle.frame.specs.Line.{partiesAt, setupAt, groupCallAt, acceptanceAt, messageAt, mediaAt, Digital};
 
-// Whether a number of one, two or four bytes is not 0: one of its digits is not `0`.
+// Whether a number of one byte is not 0: one of its digits is not `0`.
 fn one_fits(line: &[u8], at: usize) -> bool
     requires { ⌜ at + 2 < length (now line) ⌝ }
     requires { ⌜ Digital (now line) ⌝ }
@@ -24,6 +23,7 @@ fn one_fits(line: &[u8], at: usize) -> bool
     (line[at] != 48) | (line[at + 1] != 48)
 }
 
+// The same of a number of two bytes.
 fn two_fits(line: &[u8], at: usize) -> bool
     requires { ⌜ at + 4 < length (now line) ⌝ }
     requires { ⌜ Digital (now line) ⌝ }
@@ -32,6 +32,7 @@ fn two_fits(line: &[u8], at: usize) -> bool
     one_fits(line, at) | one_fits(line, at + 2)
 }
 
+// The same of a number of four bytes.
 fn four_fits(line: &[u8], at: usize) -> bool
     requires { ⌜ at + 8 < length (now line) ⌝ }
     requires { ⌜ Digital (now line) ⌝ }
@@ -40,27 +41,28 @@ fn four_fits(line: &[u8], at: usize) -> bool
     two_fits(line, at) | two_fits(line, at + 4)
 }
 
+// The fields of a private call.
 fn parties_fit(line: &[u8]) -> bool
     requires { ⌜ 22 < length (now line) ⌝ }
     requires { ⌜ Digital (now line) ⌝ }
-    ensures { λ r. ⌜ r ≡ partiesGood (partiesOf (numbersAt (front 2) (now (line .entry)) 0)) ⌝ }
+    ensures { λ r. ⌜ r ≡ partiesGood (partiesAt (now (line .entry))) ⌝ }
 {
     two_fits(line, 2) & (four_fits(line, 6) & four_fits(line, 14))
 }
 
-// Those of a setup's fields that stand after the media start at place at.
+// What a setup request says besides: the fields after the media stand from place at on.
 fn setup_fits(line: &[u8], at: usize) -> bool
     requires { ⌜ (26 < length (now line)) × (at + 8 < length (now line)) ⌝ }
-    ensures { λ r. ⌜ r ≡ setupGood (setupOf (numbersAt (front 1) (now (line .entry)) 0) (numbersAt (back 1) (now (line .entry)) at)) ⌝ }
+    ensures { λ r. ⌜ r ≡ setupGood (setupAt (now (line .entry)) at) ⌝ }
 {
     flag_good(one_at(line, 22)) & (type_good(1, one_at(line, 24)) & pck_good(four_at(line, at)))
 }
 
-// The same of a group call's fields; any time is in range, and the compiler leaves both times unread.
+// The fields of a group call, those after the media from place at on; any time is in range.
 fn group_call_fits(line: &[u8], at: usize) -> bool
     requires { ⌜ (20 < length (now line)) × (at + 34 < length (now line)) ⌝ }
     requires { ⌜ Digital (now line) ⌝ }
-    ensures { λ r. ⌜ r ≡ groupCallGood (groupCallOf (numbersAt (front 8) (now (line .entry)) 0) (numbersAt (back 8) (now (line .entry)) at)) ⌝ }
+    ensures { λ r. ⌜ r ≡ groupCallGood (groupCallAt (now (line .entry)) at) ⌝ }
 {
     two_fits(line, 2)
         & (four_fits(line, 6)
@@ -71,10 +73,11 @@ fn group_call_fits(line: &[u8], at: usize) -> bool
                             & (time_good(four_at(line, at + 16)) & four_fits(line, at + 24)))))))
 }
 
+// The fields of a group call accept.
 fn acceptance_fits(line: &[u8]) -> bool
     requires { ⌜ 24 < length (now line) ⌝ }
     requires { ⌜ Digital (now line) ⌝ }
-    ensures { λ r. ⌜ r ≡ acceptanceGood (acceptanceOf (numbersAt (front 9) (now (line .entry)) 0)) ⌝ }
+    ensures { λ r. ⌜ r ≡ acceptanceGood (acceptanceAt (now (line .entry))) ⌝ }
 {
     two_fits(line, 2)
         & (four_fits(line, 6) & (type_good(9, one_at(line, 14)) & four_fits(line, 16)))

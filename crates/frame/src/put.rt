@@ -16,7 +16,7 @@ fn digit_of(v: u8) -> u8
     87 + v
 }
 
-// A number's digits from place at on.
+// The digits of a number of one byte, from place at on.
 pub(crate) fn put_one(out: &mut [u8], at: usize, v: u8)
     requires { ⌜ at + 2 ≤ length (now out) ⌝ }
     ensures { λ _. ⌜ now (out .exit) ≡ sets (now (out .entry)) at (inHex one v) ⌝ }
@@ -25,6 +25,7 @@ pub(crate) fn put_one(out: &mut [u8], at: usize, v: u8)
     out[at + 1] = digit_of(v % 16);
 }
 
+// The digits of a number of two bytes.
 pub(crate) fn put_two(out: &mut [u8], at: usize, v: u16)
     requires { ⌜ at + 4 ≤ length (now out) ⌝ }
     ensures { λ _. ⌜ now (out .exit) ≡ sets (now (out .entry)) at (inHex two v) ⌝ }
@@ -33,6 +34,7 @@ pub(crate) fn put_two(out: &mut [u8], at: usize, v: u16)
     put_one(out, at + 2, (v % 256) as u8);
 }
 
+// The digits of a number of four bytes.
 pub(crate) fn put_four(out: &mut [u8], at: usize, v: u32)
     requires { ⌜ at + 8 ≤ length (now out) ⌝ }
     ensures { λ _. ⌜ now (out .exit) ≡ sets (now (out .entry)) at (inHex four v) ⌝ }

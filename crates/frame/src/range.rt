@@ -7,7 +7,8 @@ use crate::Parties;
 use crate::Setup;
 ghost use mathlib.Core.Path.{_≡_};
 ghost use Rattle.frame.specs.Digits.{two, four};
-ghost use Rattle.frame.specs.Range.{within, neverZero, timeGood, flagGood, typeGood, reasonGood, pckGood, mediaGood, partiesGood, setupGood, groupCallGood, acceptanceGood, inRange};
+ghost use Rattle.frame.specs.Range.{within, neverZero, timeGood, flagGood, typeGood, reasonGood, pckGood};
+ghost use Rattle.frame.specs.Range.{mediaGood, partiesGood, setupGood, groupCallGood, acceptanceGood, inRange};
 
 // A kind from 01 to 09.
 pub(crate) fn kind_good(kind: u8) -> bool
@@ -75,18 +76,21 @@ fn media_good(m: Media) -> bool
     (1 <= m.number) & (m.number <= 4294967295)
 }
 
+// The fields of a private call.
 fn parties_good(p: Parties) -> bool
     ensures { λ r. ⌜ r ≡ partiesGood p ⌝ }
 {
     two_good(p.identifier) & (four_good(p.caller) & four_good(p.callee))
 }
 
+// What a setup request says besides.
 fn setup_good(s: Setup) -> bool
     ensures { λ r. ⌜ r ≡ setupGood s ⌝ }
 {
     flag_good(s.commencement) & (type_good(1, s.call_type) & pck_good(s.pck_id))
 }
 
+// The fields of a group call.
 fn group_call_good(c: GroupCall) -> bool
     ensures { λ r. ⌜ r ≡ groupCallGood c ⌝ }
 {
@@ -99,6 +103,7 @@ fn group_call_good(c: GroupCall) -> bool
                             & (time_good(c.last_change) & four_good(c.last_changer)))))))
 }
 
+// The fields of a group call accept.
 fn acceptance_good(a: Acceptance) -> bool
     ensures { λ r. ⌜ r ≡ acceptanceGood a ⌝ }
 {

@@ -13,9 +13,10 @@ ghost use mathlib.Core.List.{[], _∷_};
 ghost use Prim.Native.Nat.{_+_, _≤_};
 ghost use lib.ListN.{length};
 ghost use lib.Seq.{sets};
-ghost use Rattle.frame.specs.Digits.{one, two, four, allInHex};
+ghost use Rattle.frame.specs.Digits.{allInHex};
 ghost use Rattle.frame.specs.Range.{kindOf};
-ghost use Rattle.frame.specs.Layout.{front, back, digitsOf, partiesThen, frameInHex};
+ghost use Rattle.frame.specs.Layout.{front, back, digitsOf, frameInHex};
+ghost use Rattle.frame.specs.Layout.{partiesThen, groupFront, groupBack, acceptanceThen};
 
 // The kind, and the identifier and the users of a private call.
 fn put_parties(out: &mut [u8], kind: u8, p: Parties)
@@ -28,21 +29,22 @@ fn put_parties(out: &mut [u8], kind: u8, p: Parties)
     put_four(out, 14, p.callee);
 }
 
-// A setup's fields and its media, behind the parties.
-fn put_setup(out: &mut [u8], s: Setup, media: Media)
+// A setup request.
+fn put_setup(out: &mut [u8], p: Parties, s: Setup, media: Media)
     requires { ⌜ 42 ≤ length (now out) ⌝ }
-    ensures { λ _. ⌜ now (out .exit) ≡ sets (now (out .entry)) 22 (allInHex (one ∷ one ∷ four ∷ four ∷ []) (s .«commencement» ∷ s .«call_type» ∷ media .number ∷ s .«pck_id» ∷ [])) ⌝ }
+    ensures { λ _. ⌜ now (out .exit) ≡ sets (now (out .entry)) 0 (frameInHex (Message.SetupRequest p s) media) ⌝ }
 {
+    put_parties(out, 1, p);
     put_one(out, 22, s.commencement);
     put_one(out, 24, s.call_type);
     put_four(out, 26, media.number);
     put_four(out, 34, s.pck_id);
 }
 
-// The fields of a group call that stand before the media.
+// The kind, and the fields of a group call that stand before the media.
 fn put_group_front(out: &mut [u8], c: GroupCall)
     requires { ⌜ 20 ≤ length (now out) ⌝ }
-    ensures { λ _. ⌜ now (out .exit) ≡ sets (now (out .entry)) 0 (allInHex (front 8) (8 ∷ c .identifier ∷ c .group ∷ c .«call_type» ∷ c .refresh ∷ [])) ⌝ }
+    ensures { λ _. ⌜ now (out .exit) ≡ sets (now (out .entry)) 0 (allInHex (front 8) (8 ∷ groupFront c)) ⌝ }
 {
     put_one(out, 0, 8);
     put_two(out, 2, c.identifier);
@@ -51,10 +53,10 @@ fn put_group_front(out: &mut [u8], c: GroupCall)
     put_two(out, 16, c.refresh);
 }
 
-// Those that stand after it, from place at on.
+// The fields of a group call that stand after the media, from place at on.
 fn put_group_back(out: &mut [u8], at: usize, c: GroupCall, confirm: u8)
     requires { ⌜ at + 34 ≤ length (now out) ⌝ }
-    ensures { λ _. ⌜ now (out .exit) ≡ sets (now (out .entry)) at (allInHex (back 8) (c .originator ∷ c .start ∷ c .«last_change» ∷ c .«last_changer» ∷ confirm ∷ [])) ⌝ }
+    ensures { λ _. ⌜ now (out .exit) ≡ sets (now (out .entry)) at (allInHex (back 8) (groupBack c confirm)) ⌝ }
 {
     put_four(out, at, c.originator);
     put_four(out, at + 8, c.start);
@@ -63,9 +65,20 @@ fn put_group_back(out: &mut [u8], at: usize, c: GroupCall, confirm: u8)
     put_one(out, at + 32, confirm);
 }
 
+// An announcement.
+fn put_announcement(out: &mut [u8], c: GroupCall, confirm: u8, media: Media)
+    requires { ⌜ 62 ≤ length (now out) ⌝ }
+    ensures { λ _. ⌜ now (out .exit) ≡ sets (now (out .entry)) 0 (frameInHex (Message.Announcement c confirm) media) ⌝ }
+{
+    put_group_front(out, c);
+    put_four(out, 20, media.number);
+    put_group_back(out, 28, c, confirm);
+}
+
+// A group call accept.
 fn put_acceptance(out: &mut [u8], a: Acceptance)
     requires { ⌜ 24 ≤ length (now out) ⌝ }
-    ensures { λ _. ⌜ now (out .exit) ≡ sets (now (out .entry)) 0 (allInHex (front 9) (9 ∷ a .identifier ∷ a .sender ∷ a .«call_type» ∷ a .group ∷ [])) ⌝ }
+    ensures { λ _. ⌜ now (out .exit) ≡ sets (now (out .entry)) 0 (allInHex (front 9) (9 ∷ acceptanceThen a)) ⌝ }
 {
     put_one(out, 0, 9);
     put_two(out, 2, a.identifier);
@@ -80,10 +93,7 @@ pub(crate) fn put_frame(out: &mut [u8], message: Message, media: Media)
     ensures { λ _. ⌜ now (out .exit) ≡ sets (now (out .entry)) 0 (frameInHex message media) ⌝ }
 {
     match message {
-        Message::SetupRequest(p, s) => {
-            put_parties(out, 1, p);
-            put_setup(out, s, media);
-        }
+        Message::SetupRequest(p, s) => put_setup(out, p, s, media),
         Message::Ringing(p) => put_parties(out, 2, p),
         Message::Accept(p) => {
             put_parties(out, 3, p);
@@ -96,11 +106,7 @@ pub(crate) fn put_frame(out: &mut [u8], message: Message, media: Media)
         Message::Release(p) => put_parties(out, 5, p),
         Message::ReleaseAck(p) => put_parties(out, 6, p),
         Message::AcceptAck(p) => put_parties(out, 7, p),
-        Message::Announcement(c, confirm) => {
-            put_group_front(out, c);
-            put_four(out, 20, media.number);
-            put_group_back(out, 28, c, confirm);
-        }
+        Message::Announcement(c, confirm) => put_announcement(out, c, confirm, media),
         Message::GroupAccept(a) => put_acceptance(out, a),
     }
 }

@@ -19,4 +19,4 @@ put-group-back-spec =
     (λ c. search needs)
     (λ c κs. search needs)
     (λ c. search needs)
-    (λ c. rw (c .before .before .put-one .ensures, c .before .before .before .before .before .before .put-four4 .ensures, c .before .before .before .before .before .before .before .before .before .before .put-four3 .ensures, c .before .before .before .before .before .before .before .before .before .before .before .before .before .before .put-four2 .ensures, c .before .before .before .before .before .before .before .before .before .before .before .before .before .before .before .before .before .before .put-four .ensures) (simp (all-cons, all-none, sets-hex, places))))
+    (λ c. rw (c .before .before .put-one .ensures, c .before .before .before .before .before .before .put-four4 .ensures, c .before .before .before .before .before .before .before .before .before .before .put-four3 .ensures, c .before .before .before .before .before .before .before .before .before .before .before .before .before .before .put-four2 .ensures, c .before .before .before .before .before .before .before .before .before .before .before .before .before .before .before .before .before .before .put-four .ensures) (simp (all-cons, all-none, sets-hex) (rw (places _ 8 8, places _ 16 8, places _ 24 8)))))

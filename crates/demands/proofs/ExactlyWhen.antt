@@ -16,9 +16,10 @@ use Rattle.frame.specs.Line.{messageAt, mediaAt, count, kindAt, unended, undigi
 use Rattle.frame.specs.Writing.{writeNumber}
 use Rattle.frame.specs.declared.Media.{Media}
 use Rattle.frame.specs.declared.Message.{Message}
-use Rattle.frame.proofs.NineKinds.{nine}
 use Rattle.frame.proofs.Judged.{not-all}
-use Rattle.demands.specs.ExactlyWhen.{ExactlyWhen, IsDigit, totals, Unended, Undigital, Unkind, Misfit, Unranged, lineTable, writeTable}
+use Rattle.demands.specs.ExactlyWhen.{ExactlyWhen, IsDigit, Unended, Undigital, Unkind, Misfit, Unranged, lineTable, writeTable}
+use Rattle.demands.specs.Totals.{totals}
+use Rattle.demands.proofs.Totals.{digits-total}
 use Rattle.demands.proofs.Reflects.{Reflects, true-reflects, leb-reflects, ltb-reflects, eqb-reflects, not-reflects, and-reflects, or-reflects}
 use Rattle.demands.proofs.Tables.{Row, Right, table-exactly}
 
@@ -79,11 +80,6 @@ unkind-reflects l =
     (not-reflects (within 1 (kindAt l) 9)
     (and-reflects (leb 1 (kindAt l)) (leb (kindAt l) 9) (leb-reflects 1 (kindAt l)) (leb-reflects (kindAt l) 9)))
 
--- the layouts add up to the totals
-total : (k : ℕ) → 1 ≤ k → k ≤ 9 → digitsOf k ≡ 2 * getD totals k 0
-unfolding digitsOf
-total = nine (λ (k : ℕ). digitsOf k ≡ 2 * getD totals k 0) refl refl refl refl refl refl refl refl refl
-
 known : (l : List ℕ) → (Unkind l → ⊥) → (1 ≤ kindAt l) × (kindAt l ≤ 9)
 known l f = go (within 1 (kindAt l) 9) refl
   where
@@ -97,7 +93,7 @@ known l f = go (within 1 (kindAt l) 9) refl
 misfit-reflects : (l : List ℕ) → (Unkind l → ⊥) → Reflects (misfit l) (Misfit l)
 misfit-reflects l f =
     let k = known l f in
-    not-reflects (eqb (count l) (digitsOf (kindAt l))) (rw (total (kindAt l) (k .0) (k .1)) (eqb-reflects (count l) (2 * getD totals (kindAt l) 0)))
+    not-reflects (eqb (count l) (digitsOf (kindAt l))) (rw (digits-total (kindAt l) (k .0) (k .1)) (eqb-reflects (count l) (2 * getD totals (kindAt l) 0)))
 
 false-reflects : (b : Bool) → Reflects (not b) (b ≡ false)
 false-reflects b = (not-true b, λ e. ap not e)

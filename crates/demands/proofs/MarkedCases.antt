@@ -1,21 +1,23 @@
 -- The marked cases hold. Assumes nothing.
-use mathlib.Core.Path.{_≡_, refl, ap, _∙_}
+use mathlib.Core.Path.{_≡_, refl, sym, ap, _∙_}
 use mathlib.Core.List.{List, [], _∷_}
-use mathlib.Core.Bool.{Bool, true, false, _&&_}
+use mathlib.Core.Bool.{Bool, true, false, not, _&&_}
 use Prim.Native.Nat.{ℕ, zero, suc, _<_}
 use native.Mathlib.Nat.{not-suc-le-zero}
 use native.Mathlib.Omega.{arith}
-use lib.ListN.{length, set}
-use lib.Dec.{eqb}
+use lib.ListN.{length, set, replicate, length-replicate}
+use lib.Dec.{ltb, eqb}
 use borrow.Author.Tests.{eqb-true, eqb-false}
+use Rattle.frame.specs.Number.{firstGiven}
 use Rattle.frame.specs.Digits.{allDigits, inHex, numberAt, allInHex, numbersAt}
 use Rattle.frame.specs.Range.{partiesGood, setupGood, groupCallGood, acceptanceGood, inRange}
 use Rattle.frame.specs.Layout.{digitsOf, frameInHex, lineOf}
-use Rattle.frame.specs.Line.{messageAt, mediaAt, refusalOf, readLine}
+use Rattle.frame.specs.Line.{messageAt, mediaAt, count, refusalOf, readLine, lineNumber}
 use Rattle.frame.specs.Writing.{writeNumber}
+use Rattle.frame.specs.declared.Media.{Media}
+use Rattle.frame.specs.declared.Message.{Message}
 use Rattle.frame.proofs.Laws.{and-split}
-use Rattle.demands.specs.Text.{bytes}
-use Rattle.demands.specs.MarkedCases.{Holds, ringing, setup, table, AllHold}
+use Rattle.demands.specs.MarkedCases.{spoilt, writes, Holds, reading-holds, spoilt-holds, writing-holds, ringing, setup, table, AllHold}
 
 -- a test that is computed at each number below n, and what it shows of each
 below : ℕ → (ℕ → Bool) → Bool
@@ -32,11 +34,18 @@ at (suc n) p e i h =
     go true t x y = ap p (eqb-true i n t) ∙ x
     go false t x y = let d = eqb-false i n t in y (omega (arith, d))
 
--- case B: the byte `A` in place of any digit
-capital : (i : ℕ) → i < 22 → refusalOf (set (bytes "0212340000000700000009\n") i 65) ≡ 2
-unfolding below refusalOf messageAt mediaAt numbersAt numberAt digitsOf allDigits inRange partiesGood setupGood groupCallGood acceptanceGood
-capital i h = eqb-true _ 2 (at 22 (λ (k : ℕ). eqb (refusalOf (set (bytes "0212340000000700000009\n") k 65)) 2) refl i h)
+-- a byte in place of any digit, by the test at each place
+everywhere : {l : List ℕ} {byte n : ℕ} → below (count l) (λ (k : ℕ). eqb (lineNumber (set l k byte)) n) ≡ true → Holds (spoilt l byte n)
+everywhere {l} {byte} {n} e = spoilt-holds (λ i h. eqb-true _ n (at (count l) (λ (k : ℕ). eqb (lineNumber (set l k byte)) n) e i h))
+
+-- the writer's number looks at a buffer's length alone
+by-length : {m : Message} {media : Media} {room n : ℕ} → writeNumber m media (replicate room 0) ≡ n → Holds (writes m media room n)
+unfolding writeNumber
+by-length {m} {media} {room} h =
+    writing-holds (λ out e.
+    ap (λ (k : ℕ). firstGiven ((5, not (inRange m media)) ∷ (6, ltb k (length (lineOf m media))) ∷ [])) (e ∙ sym (length-replicate room 0)) ∙ h)
 
 pub marked-cases : AllHold table
-unfolding AllHold table Holds ringing setup readLine refusalOf messageAt mediaAt numbersAt numberAt digitsOf allDigits inRange partiesGood setupGood groupCallGood acceptanceGood writeNumber lineOf frameInHex allInHex inHex
-marked-cases = (refl, (capital, (refl, (refl, (λ out e. rw e, (λ out e. rw e, (refl, (refl, tt))))))))
+unfolding below AllHold table ringing setup readLine refusalOf messageAt mediaAt numbersAt numberAt digitsOf allDigits inRange partiesGood setupGood groupCallGood acceptanceGood writeNumber lineOf frameInHex allInHex inHex
+marked-cases =
+    (reading-holds refl, (everywhere refl, (reading-holds refl, (reading-holds refl, (by-length refl, (by-length refl, (reading-holds refl, (reading-holds refl, tt))))))))

@@ -10,6 +10,7 @@ use Rattle.frame.specs.Layout.{lineOf}
 use Rattle.frame.specs.Line.{messageAt, mediaAt, kindAt}
 use Rattle.frame.specs.declared.Media.{Media}
 use Rattle.frame.specs.declared.Message.{Message}
+use Rattle.demands.specs.Totals.{totals}
 
 -- ---- what it is for a number to be given exactly when
 
@@ -23,10 +24,6 @@ ExactlyWhen given before (row ∷ rows) =
 
 abbrev pub IsDigit : ℕ → Type 0
 IsDigit x = ((48 ≤ x) × (x ≤ 57)) ⊎ ((97 ≤ x) × (x ≤ 102))
-
--- the bytes of a frame of each kind, from kind 0, which is none, to kind 9
-abbrev pub totals : List ℕ
-totals = 0 ∷ 21 ∷ 11 ∷ 15 ∷ 12 ∷ 11 ∷ 11 ∷ 11 ∷ 31 ∷ 12 ∷ []
 
 -- 1: the line is empty, or its last byte is not 0A
 abbrev pub Unended : List ℕ → Type 0

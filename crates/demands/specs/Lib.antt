@@ -1,4 +1,5 @@
 pub mod Text
+pub mod Totals
 pub mod ExactlyWhen
-pub mod MarkedCases
 pub mod NothingChanges
+pub mod MarkedCases

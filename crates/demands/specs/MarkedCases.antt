@@ -22,10 +22,12 @@ pub data Case : Type 0 where
   -- a frame gets this number from every buffer of this length
   writes : Message → Media → ℕ → ℕ → Case
 
-unfoldable pub Holds : Case → Type 0
-Holds (reads l r) = readLine l ≡ r
-Holds (spoilt l byte n) = (i : ℕ) → i < count l → lineNumber (set l i byte) ≡ n
-Holds (writes m media room n) = (out : List ℕ) → length out ≡ room → writeNumber m media out ≡ n
+-- a case holds
+pub data Holds : Case → Type 0 where
+  reading-holds : {l : List ℕ} {r : Reading} → readLine l ≡ r → Holds (reads l r)
+  spoilt-holds : {l : List ℕ} {byte n : ℕ} → ((i : ℕ) → i < count l → lineNumber (set l i byte) ≡ n) → Holds (spoilt l byte n)
+  writing-holds : {m : Message} {media : Media} {room n : ℕ} → ((out : List ℕ) → length out ≡ room → writeNumber m media out ≡ n)
+      → Holds (writes m media room n)
 
 -- RINGING of call 1234 (hexadecimal), caller 7, callee 9
 unfoldable pub ringing : Message

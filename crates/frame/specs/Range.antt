@@ -24,27 +24,27 @@ neverZero w v = within 1 v (largest w)
 
 -- a time: any number of four bytes
 abbrev pub timeGood : ℕ → Bool
-timeGood v = leb v (largest four)
+timeGood time = leb time (largest four)
 
 -- commencement: 0 automatic, 1 manual; confirm: 0 or 1
 abbrev pub flagGood : ℕ → Bool
-flagGood v = leb v 1
+flagGood flag = leb flag 1
 
 -- a call's type: 4 private in a setup request, and there alone; elsewhere 1 basic, 2 emergency, 3 imminent peril
 abbrev pub typeGood : ℕ → ℕ → Bool
-typeGood kind v = cond (eqb kind 1) (eqb v 4) (within 1 v 3)
+typeGood kind type = cond (eqb kind 1) (eqb type 4) (within 1 type 3)
 
 -- a reason: 0 REJECT, 1 MEDIA FAILURE, 2 BUSY, 3 E2E SECURITY CONTEXT FAILURE, 4 FAILED
 abbrev pub reasonGood : ℕ → Bool
-reasonGood v = leb v 4
+reasonGood reason = leb reason 4
 
 -- a PCK-ID: 0, no security, or its top four bits are 0011
 abbrev pub pckGood : ℕ → Bool
-pckGood v = eqb v 0 || eqb (v / 268435456) 3
+pckGood pck = eqb pck 0 || eqb (pck / 268435456) 3
 
 -- media: a number of four bytes, never 0
 abbrev pub mediaGood : Media → Bool
-mediaGood m = neverZero four (m .number)
+mediaGood media = neverZero four (media .number)
 
 -- no media, what a kind without media has in its place
 abbrev pub noMedia : Media

@@ -32,48 +32,48 @@ fn four_good(v: u32) -> bool
 }
 
 // A start or a last change: any time.
-pub(crate) fn time_good(v: u32) -> bool
-    ensures { λ r. ⌜ r ≡ timeGood v ⌝ }
+pub(crate) fn time_good(time: u32) -> bool
+    ensures { λ r. ⌜ r ≡ timeGood time ⌝ }
 {
-    v <= 4294967295
+    time <= 4294967295
 }
 
 // A commencement or a confirm.
-pub(crate) fn flag_good(v: u8) -> bool
-    ensures { λ r. ⌜ r ≡ flagGood v ⌝ }
+pub(crate) fn flag_good(flag: u8) -> bool
+    ensures { λ r. ⌜ r ≡ flagGood flag ⌝ }
 {
-    v <= 1
+    flag <= 1
 }
 
 // The type of a call in a message of this kind.
-pub(crate) fn type_good(kind: u8, v: u8) -> bool
-    ensures { λ r. ⌜ r ≡ typeGood kind v ⌝ }
+pub(crate) fn type_good(kind: u8, call_type: u8) -> bool
+    ensures { λ r. ⌜ r ≡ typeGood kind «call_type» ⌝ }
 {
     if kind == 1 {
-        return v == 4;
+        return call_type == 4;
     }
-    (1 <= v) & (v <= 3)
+    (1 <= call_type) & (call_type <= 3)
 }
 
 // The reason of a reject.
-pub(crate) fn reason_good(v: u8) -> bool
-    ensures { λ r. ⌜ r ≡ reasonGood v ⌝ }
+pub(crate) fn reason_good(reason: u8) -> bool
+    ensures { λ r. ⌜ r ≡ reasonGood reason ⌝ }
 {
-    v <= 4
+    reason <= 4
 }
 
 // A PCK-ID: 0, or 0011 in its top four bits.
-pub(crate) fn pck_good(v: u32) -> bool
-    ensures { λ r. ⌜ r ≡ pckGood v ⌝ }
+pub(crate) fn pck_good(pck_id: u32) -> bool
+    ensures { λ r. ⌜ r ≡ pckGood «pck_id» ⌝ }
 {
-    (v == 0) | (v / 268435456 == 3)
+    (pck_id == 0) | (pck_id / 268435456 == 3)
 }
 
 // The media of a frame whose kind carries media.
-fn media_good(m: Media) -> bool
-    ensures { λ r. ⌜ r ≡ mediaGood m ⌝ }
+fn media_good(media: Media) -> bool
+    ensures { λ r. ⌜ r ≡ mediaGood media ⌝ }
 {
-    (1 <= m.number) & (m.number <= 4294967295)
+    four_good(media.number)
 }
 
 // The fields of a private call.

@@ -22,33 +22,36 @@ ExactlyWhen given before (row ∷ rows) =
 
 -- ---- a line
 
+-- the digits 0 to 9 and a to f
 abbrev pub IsDigit : ℕ → Type 0
 IsDigit x = ((48 ≤ x) × (x ≤ 57)) ⊎ ((97 ≤ x) × (x ≤ 102))
 
--- 1: the line is empty, or its last byte is not 0A
+-- 1: there are no bytes, or they do not end in 0A
 abbrev pub Unended : List ℕ → Type 0
-Unended l = (l ≡ []) ⊎ (getD l (length l - 1) 0 ≡ 10 → ⊥)
+Unended l = (l ≡ []) ⊎ (getD l (length l - 1) 0 ≡ 0x0a → ⊥)
 
--- 2: a byte before the last is not 0-9 or a-f
+-- 2: ahead of the line end stands something else than a digit
 abbrev pub Undigital : List ℕ → Type 0
 Undigital l = (i : ℕ) × (suc i < length l) × (IsDigit (getD l i 0) → ⊥)
 
--- 3: fewer than two digits, or the kind is not 01 to 09
+-- 3: there is no whole kind, or it is none of the nine
 abbrev pub Unkind : List ℕ → Type 0
 Unkind l = (length l - 1 < 2) ⊎ ((1 ≤ kindAt l) × (kindAt l ≤ 9) → ⊥)
 
--- 4: the digit count is not the kind's, two a byte
+-- 4: the digits are not two for each byte of the kind's total
 abbrev pub Misfit : List ℕ → Type 0
 Misfit l = length l - 1 ≡ 2 * getD totals (kindAt l) 0 → ⊥
 
--- 5: a field outside its range
+-- 5: a field has a value that it may not have
 abbrev pub Unranged : List ℕ → Type 0
 Unranged l = inRange (messageAt (kindAt l) l) (mediaAt (kindAt l) l) ≡ false
 
+-- the reader's table
 abbrev pub lineTable : List ℕ → List (ℕ × Type 0)
 lineTable l = (1, Unended l) ∷ (2, Undigital l) ∷ (3, Unkind l) ∷ (4, Misfit l) ∷ (5, Unranged l) ∷ []
 
--- ---- a frame to write: 5, a field outside its range; 6, the lent buffer is shorter than the line
+-- ---- a frame to write: 5, a field has a value that it may not have; 6, the buffer has no room for the line
 
+-- the writer's table
 abbrev pub writeTable : Message → Media → List ℕ → List (ℕ × Type 0)
 writeTable m media out = (5, inRange m media ≡ false) ∷ (6, length out < length (lineOf m media)) ∷ []

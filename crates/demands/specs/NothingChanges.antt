@@ -8,11 +8,11 @@ use Rattle.frame.specs.Writing.{writtenOf, bufferOf}
 use Rattle.frame.specs.declared.Media.{Media}
 use Rattle.frame.specs.declared.Message.{Message}
 
--- the writer refused: length 0, and the lent buffer byte for byte as it was
+-- the writer refused: it tells length 0, and every byte of the buffer is what it was
 abbrev pub WriteKept : Message → Media → List ℕ → Type 0
 WriteKept m media out = (writtenOf m media out .length ≡ 0) × (bufferOf m media out ≡ out)
 
--- the writer wrote: the line fills the front of the buffer, and later bytes stay
+-- the writer wrote: the line, and behind it the bytes that stood there
 abbrev pub WriteDone : Message → Media → List ℕ → Type 0
 WriteDone m media out =
     (writtenOf m media out .length ≡ length (lineOf m media))

@@ -7,7 +7,7 @@ use lib.Dec.{ltb, leb}
 
 -- ---- a digit
 
--- 0-9 or a-f
+-- the digits 0 to 9 and a to f, no capitals
 abbrev pub isDigit : ℕ → Bool
 isDigit x = (leb 48 x && leb x 57) || (leb 97 x && leb x 102)
 

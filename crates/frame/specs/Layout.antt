@@ -14,7 +14,14 @@ use Rattle.frame.specs.declared.Message.the-variants.{SetupRequest, Ring
 
 -- ---- a kind's layout: its front, then its media, then its back
 
--- the widths before the media: kind and identifier first in every kind
+-- 01: caller, callee, commencement, type; media; PCK-ID
+-- 02, 05, 06, 07: caller, callee
+-- 03: caller, callee; media
+-- 04: caller, callee, reason
+-- 08: group, type, refresh; media; originator, start, last change, last changer, confirm
+-- 09: sender, type, group
+
+-- the widths before the media: in every kind the kind, one byte, and the identifier, two bytes, come first
 abbrev pub front : ℕ → List Width
 front kind =
     one ∷ two
@@ -103,7 +110,7 @@ frameInHex m media =
 
 -- the line of a frame: its digits, then byte 0A
 unfoldable pub lineOf : Message → Media → List ℕ
-lineOf m media = frameInHex m media ++ 10 ∷ []
+lineOf m media = frameInHex m media ++ 0x0a ∷ []
 
 -- the length of the longest line, that of an announcement
 abbrev pub longestLine : ℕ

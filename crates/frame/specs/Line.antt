@@ -92,27 +92,27 @@ count l = length l - 1
 abbrev pub kindAt : List ℕ → ℕ
 kindAt l = numberAt one l 0
 
--- 1: the line is empty, or its last byte is not 0A
+-- 1: there are no bytes, or they do not end in 0A
 abbrev pub unended : List ℕ → Bool
-unended l = eqb (length l) 0 || not (eqb (getD l (count l) 0) 10)
+unended l = eqb (length l) 0 || not (eqb (getD l (count l) 0) 0x0a)
 
 -- every byte before the last is a digit
 abbrev pub Digital : List ℕ → Type 0
 Digital l = allDigits (take (count l) l) ≡ true
 
--- 2: a byte before the last is not 0-9 or a-f
+-- 2: ahead of the line end stands something else than a digit
 abbrev pub undigital : List ℕ → Bool
 undigital l = not (allDigits (take (count l) l))
 
--- 3: fewer than two digits, or a kind that is not 01 to 09
+-- 3: there is no whole kind, or it is none of the nine
 abbrev pub unkind : List ℕ → Bool
 unkind l = ltb (count l) 2 || not (within 1 (kindAt l) 9)
 
--- 4: the digit count is not the kind's
+-- 4: too few or too many digits for the kind
 abbrev pub misfit : List ℕ → Bool
 misfit l = not (eqb (count l) (digitsOf (kindAt l)))
 
--- 5: a field outside its range
+-- 5: a field has a value that it may not have
 abbrev pub unranged : List ℕ → Bool
 unranged l = not (inRange (messageAt (kindAt l) l) (mediaAt (kindAt l) l))
 

@@ -38,9 +38,9 @@ typeGood kind type = cond (eqb kind 1) (eqb type 4) (within 1 type 3)
 abbrev pub reasonGood : ℕ → Bool
 reasonGood reason = leb reason 4
 
--- a PCK-ID: 0, no security, or its top four bits are 0011
+-- a PCK-ID: 0 where there is no security, else one with 0011 in its top four bits
 abbrev pub pckGood : ℕ → Bool
-pckGood pck = eqb pck 0 || eqb (pck / 268435456) 3
+pckGood pck = eqb pck 0 || eqb (pck / 0x1000_0000) 0b0011
 
 -- media: a number of four bytes, never 0
 abbrev pub mediaGood : Media → Bool

@@ -11,7 +11,7 @@ use Rattle.frame.specs.declared.Media.{Media}
 use Rattle.frame.specs.declared.Message.{Message}
 use Rattle.frame.specs.declared.Written.{Written}
 
--- 5: a field outside its range; 6: the buffer is shorter than the line
+-- 5: a field has a value that it may not have; 6: the buffer has no room for the line
 unfoldable pub writeNumber : Message → Media → List ℕ → ℕ
 writeNumber m media out =
     firstGiven ((5, not (inRange m media)) ∷ (6, ltb (length out) (length (lineOf m media))) ∷ [])
@@ -24,7 +24,7 @@ writtenOf m media out =
       length = cond (eqb (writeNumber m media out) 0) (length (lineOf m media)) 0;
     }
 
--- the line at the front and the later bytes as they were, or all as it was
+-- where it writes, the line and behind it the bytes that stood there; where it refuses, every byte that stood there
 unfoldable pub bufferOf : Message → Media → List ℕ → List ℕ
 bufferOf m media out =
     cond (eqb (writeNumber m media out) 0) (lineOf m media ++ drop (length (lineOf m media)) out) out

@@ -4,7 +4,7 @@ ghost use Prim.Native.Nat.{_+_, _<_, _≤_};
 ghost use lib.ListN.{length, take};
 ghost use Rattle.frame.specs.Digits.{isDigit, valueOf, allDigits, numberAt, one, two, four};
 
-// Whether a byte is 0-9 or a-f.
+// Whether a byte is one of the digits 0 to 9 and a to f.
 pub(crate) fn is_digit(x: u8) -> bool
     ensures { λ r. ⌜ r ≡ isDigit x ⌝ }
 {

@@ -100,7 +100,7 @@ pub fn check_line(line: &[u8]) -> u8
         return 1;
     }
     let count = length - 1;
-    if line[count] != 10 {
+    if line[count] != 0x0a {
         return 1;
     }
     if !digits::all_digits(line, count) {
@@ -160,7 +160,7 @@ pub fn write_line(message: Message, media: Media, out: &mut [u8]) -> Written
         };
     }
     store::put_frame(out, message, media);
-    out[count] = 10;
+    out[count] = 0x0a;
     Written {
         number: 0,
         length: count + 1,

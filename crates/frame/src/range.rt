@@ -66,7 +66,7 @@ pub(crate) fn reason_good(reason: u8) -> bool
 pub(crate) fn pck_good(pck_id: u32) -> bool
     ensures { λ r. ⌜ r ≡ pckGood «pck_id» ⌝ }
 {
-    (pck_id == 0) | (pck_id / 268435456 == 3)
+    (pck_id == 0) | (pck_id / 0x1000_0000 == 0b0011)
 }
 
 // The media of a frame whose kind carries media.

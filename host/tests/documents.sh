@@ -1,0 +1,83 @@
+#!/usr/bin/env bash
+# The documents against the tree: what they name is there, and what they must name they do.
+# Each case prints one line, 'ok NAME' or 'FAILED NAME: what is wrong'; the exit status is not 0 where one failed.
+set -u
+cd "$(dirname "${BASH_SOURCE[0]}")/../.." || exit 2
+status=0
+
+# One case: it passes where its second word, what was found wrong, is empty.
+verdict() {
+    if [ -z "$2" ]; then
+        echo "ok $1"
+    else
+        echo "FAILED $1:" $2
+        status=1
+    fi
+}
+
+# The crates of crates.txt.
+listed() { sed 's/#.*//' crates.txt | sed -n 's/^[[:space:]]*\([a-z0-9_]*\):.*/\1/p'; }
+
+# CRATE::NAME for each public function of a library; methods by their type are not told apart.
+public_functions() {
+    local crate
+    for crate in $(listed); do
+        [ -f "crates/$crate/src/lib.rt" ] || continue
+        cat "crates/$crate/src"/*.rt | sed -n "s/^[[:space:]]*pub \(extern \"C\" \)\{0,1\}fn \([a-z0-9_]*\).*/$crate::\2/p"
+    done
+}
+
+# CRATE/LABEL for each must-fail edit.
+edits() { find crates -path '*/must-fail/*.edit' | sed 's|^crates/\([^/]*\)/must-fail/\(.*\)\.edit$|\1/\2|' | sort; }
+
+# What a document writes between backquotes.
+quoted() { grep -o '`[^`]*`' "$1" | tr -d '`' | sort -u; }
+
+wrong=''
+for crate in crates/*/; do
+    crate=$(basename "$crate")
+    listed | grep -qx "$crate" || wrong="$wrong $crate"
+done
+verdict "every folder of crates/ is listed in crates.txt" "$wrong"
+
+wrong=''
+for name in $(public_functions); do
+    grep -qF "\`$name\`" docs/PROMISES.md || wrong="$wrong $name"
+done
+verdict "docs/PROMISES.md has every public function" "$wrong"
+
+wrong=''
+for name in $(edits); do
+    grep -qF "\`$name\`" docs/PROMISES.md || wrong="$wrong $name"
+done
+verdict "docs/PROMISES.md has every must-fail edit" "$wrong"
+
+wrong=''
+for name in $(quoted docs/PROMISES.md | grep -E '^[a-z_]+/[a-z0-9_]+$'); do
+    edits | grep -qx "$name" || wrong="$wrong $name"
+done
+verdict "every edit that docs/PROMISES.md names is there" "$wrong"
+
+wrong=''
+for page in docs/ROWS.md docs/PROMISES.md; do
+    for name in $(quoted "$page" | grep -E '^[A-Za-z][A-Za-z0-9_:·-]*$' | sed 's/.*:://'); do
+        grep -rqwF -- "$name" crates .ci || wrong="$wrong $page:$name"
+    done
+done
+verdict "every name that docs/ROWS.md and docs/PROMISES.md cite stands in a crate" "$wrong"
+
+wrong=''
+for page in README.md docs/*.md; do
+    for link in $(grep -o '](\([^)#]*\))' "$page" | sed 's/](\(.*\))/\1/' | grep -v '^http'); do
+        [ -e "$(dirname "$page")/$link" ] || wrong="$wrong $page:$link"
+    done
+done
+verdict "every link of README.md and docs/ leads somewhere" "$wrong"
+
+wrong=$(find crates -name '*.rt' -o -name '*.antt' | xargs wc -l | awk '$2 != "total" && $1 >= 300 { print $2 }')
+verdict "no file of Rattle or antt has 300 lines" "$wrong"
+
+wrong=$(rt fmt --check >/dev/null 2>&1 || echo "run rt fmt")
+verdict "the sources are in rt fmt's layout" "$wrong"
+
+exit $status

@@ -1,9 +1,9 @@
 -- The numbers 1 to 6 are given exactly when, in the order told. Assumes nothing.
-use mathlib.Core.Path.{_≡_, refl, sym, ap, _∙_}
-use mathlib.Core.Logic.{_⊎_, inl, inr, ⊎-elim, _↔_, Iff·trans}
+use mathlib.Core.Path.{_≡_, refl, ap}
+use mathlib.Core.Logic.{inr, Iff·trans}
 use mathlib.Core.List.{List, [], _∷_}
-use mathlib.Core.Bool.{Bool, true, false, not, _&&_, _||_, true≢false}
-use Prim.Native.Nat.{ℕ, zero, suc, _+_, _*_, _-_, _<_, _≤_, zero-le}
+use mathlib.Core.Bool.{Bool, true, false, not, _&&_, true≢false}
+use Prim.Native.Nat.{ℕ, zero, suc, _*_, _<_, _≤_}
 use native.Mathlib.Nat.{le-of-suc-le-suc, not-suc-le-zero}
 use native.Mathlib.Omega.{arith}
 use lib.ListN.{length, take, getD}
@@ -12,7 +12,7 @@ use borrow.Author.Tests.{not-true}
 use Rattle.frame.specs.Digits.{isDigit, allDigits}
 use Rattle.frame.specs.Range.{within, inRange}
 use Rattle.frame.specs.Layout.{digitsOf, lineOf}
-use Rattle.frame.specs.Line.{messageAt, mediaAt, count, kindAt, unended, undigital, unkind, misfit, unranged, refusalOf, lineNumber}
+use Rattle.frame.specs.Line.{count, kindAt, unended, undigital, unkind, misfit, unranged, refusalOf, lineNumber}
 use Rattle.frame.specs.Writing.{writeNumber}
 use Rattle.frame.specs.declared.Media.{Media}
 use Rattle.frame.specs.declared.Message.{Message}
@@ -25,6 +25,7 @@ use Rattle.demands.proofs.Tables.{Row, Right, table-exactly}
 
 -- ---- 1
 
+-- no bytes
 empty-reflects : (l : List ℕ) → Reflects (eqb (length l) 0) (l ≡ [])
 empty-reflects l = Iff·trans (eqb-reflects (length l) 0) (none l, λ e. ap length e)
   where
@@ -32,6 +33,7 @@ empty-reflects l = Iff·trans (eqb-reflects (length l) 0) (none l, λ e. ap leng
     none [] e = refl
     none (x ∷ k) e = let z : ⊥ = omega arith in absurd z
 
+-- 1
 unended-reflects : (l : List ℕ) → Reflects (unended l) (Unended l)
 unended-reflects l =
     or-reflects (eqb (length l) 0) (not (eqb (getD l (count l) 0) 10)) (empty-reflects l)
@@ -39,6 +41,7 @@ unended-reflects l =
 
 -- ---- 2
 
+-- a digit
 digit-reflects : (x : ℕ) → Reflects (isDigit x) (IsDigit x)
 digit-reflects x =
     or-reflects (leb 48 x && leb x 57) (leb 97 x && leb x 102)
@@ -58,6 +61,7 @@ found (x ∷ l) (suc n) h e = go (isDigit x) refl e (found l n (le-of-suc-le-suc
     go true t f r = let p = r f in let h : p .0 < n = p .1 in (suc (p .0), omega arith, p .2)
     go false t f r = (0, omega arith, t)
 
+-- 2
 undigital-reflects : (l : List ℕ) → Reflects (undigital l) (Undigital l)
 undigital-reflects l = (
   λ e.
@@ -74,12 +78,14 @@ undigital-reflects l = (
 
 -- ---- 3, 4, 5
 
+-- 3
 unkind-reflects : (l : List ℕ) → Reflects (unkind l) (Unkind l)
 unkind-reflects l =
     or-reflects (ltb (count l) 2) (not (within 1 (kindAt l) 9)) (ltb-reflects (count l) 2)
     (not-reflects (within 1 (kindAt l) 9)
     (and-reflects (leb 1 (kindAt l)) (leb (kindAt l) 9) (leb-reflects 1 (kindAt l)) (leb-reflects (kindAt l) 9)))
 
+-- past 3 the kind is one of the nine
 known : (l : List ℕ) → (Unkind l → ⊥) → (1 ≤ kindAt l) × (kindAt l ≤ 9)
 known l f = go (within 1 (kindAt l) 9) refl
   where
@@ -90,11 +96,13 @@ known l f = go (within 1 (kindAt l) 9) refl
     go true e = here .0 e
     go false e = absurd (f (inr (true-reflects here e)))
 
+-- 4, past 3
 misfit-reflects : (l : List ℕ) → (Unkind l → ⊥) → Reflects (misfit l) (Misfit l)
 misfit-reflects l f =
     let k = known l f in
     not-reflects (eqb (count l) (digitsOf (kindAt l))) (rw (digits-total (kindAt l) (k .0) (k .1)) (eqb-reflects (count l) (2 * getD totals (kindAt l) 0)))
 
+-- a test that is false
 false-reflects : (b : Bool) → Reflects (not b) (b ≡ false)
 false-reflects b = (not-true b, λ e. ap not e)
 

@@ -24,6 +24,7 @@ below : ℕ → (ℕ → Bool) → Bool
 below zero p = true
 below (suc n) p = p n && below n p
 
+-- what such a test shows of each number
 at : (n : ℕ) (p : ℕ → Bool) → below n p ≡ true → (i : ℕ) → i < n → p i ≡ true
 unfolding below
 at zero p e i h = absurd (not-suc-le-zero h)
@@ -45,6 +46,7 @@ by-length {m} {media} {room} h =
     writing-holds (λ out e.
     ap (λ (k : ℕ). firstGiven ((5, not (inRange m media)) ∷ (6, ltb k (length (lineOf m media))) ∷ [])) (e ∙ sym (length-replicate room 0)) ∙ h)
 
+-- every marked case holds
 pub marked-cases : AllHold table
 unfolding below AllHold table ringing setup readLine refusalOf messageAt mediaAt numbersAt numberAt digitsOf allDigits inRange partiesGood setupGood groupCallGood acceptanceGood writeNumber lineOf frameInHex allInHex inHex
 marked-cases =

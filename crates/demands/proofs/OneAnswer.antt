@@ -10,11 +10,14 @@ use Rattle.frame.proofs.write_line.Reads as write-line
 same : {A : Type 0} {x a b : A} → a ≡ x → b ≡ x → a ≡ b
 same p q = p ∙ sym q
 
+-- the number of a line
 pub check-line-one : (κs : Lifetimes.Lfts 1) (a : _) (r q : _) (s t : _) → check-line.Learnt κs a r s → check-line.Learnt κs a q t → r ≡ q
 check-line-one κs a r q s t x y = same x y
 
+-- the frame of a line
 pub read-line-one : (κs : Lifetimes.Lfts 1) (a : _) (r q : _) (s t : _) → read-line.Learnt κs a r s → read-line.Learnt κs a q t → r ≡ q
 read-line-one κs a r q s t x y = same x y
 
+-- the number and length of a written line, and the buffer
 pub write-line-one : (κs : Lifetimes.Lfts 1) (a : _) (r q : _) (s t : _) → write-line.Learnt κs a r s → write-line.Learnt κs a q t → (r ≡ q) × (s .1 .1 .0 .now ≡ t .1 .1 .0 .now)
 write-line-one κs a r q s t x y = (same (x .0) (y .0), same (x .1 .0) (y .1 .0))

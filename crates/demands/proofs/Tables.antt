@@ -1,6 +1,6 @@
 -- A table of tests gives each number exactly when. Assumes nothing.
 use mathlib.Core.Path.{_≡_, refl, sym, ap, _∙_}
-use mathlib.Core.Logic.{_⊎_, inl, inr, ⊎-elim, _↔_}
+use mathlib.Core.Logic.{_⊎_, inl, inr, ⊎-elim}
 use mathlib.Core.List.{List, [], _∷_}
 use mathlib.Core.Bool.{Bool, true, false, not, _&&_, cond, true≢false}
 use Prim.Native.Nat.{ℕ}
@@ -9,16 +9,18 @@ use borrow.Author.Tests.{eq-eqb}
 use Rattle.frame.specs.Number.{firstGiven}
 use Rattle.frame.proofs.Laws.{and-split}
 use Rattle.demands.specs.ExactlyWhen.{ExactlyWhen}
-use Rattle.demands.proofs.Reflects.{Reflects, true-reflects}
+use Rattle.demands.proofs.Reflects.{Reflects}
 
 -- a row: the number, the test, the condition
 abbrev pub Row : Type 1
 Row = ℕ × Bool × Type 0
 
+-- the numbers with their tests
 abbrev pub tests : List Row → List (ℕ × Bool)
 tests [] = []
 tests (r ∷ rows) = (r .0, r .1) ∷ tests rows
 
+-- the numbers with their conditions
 abbrev pub conditions : List Row → List (ℕ × Type 0)
 conditions [] = []
 conditions (r ∷ rows) = (r .0, r .2) ∷ conditions rows
@@ -33,6 +35,7 @@ abbrev pub fresh : ℕ → List Row → Bool
 fresh n [] = not (eqb n 0)
 fresh n (r ∷ rows) = not (eqb n (r .0)) && fresh n rows
 
+-- every number is fresh
 abbrev pub apart : List Row → Bool
 apart [] = true
 apart (r ∷ rows) = fresh (r .0) rows && apart rows
@@ -42,6 +45,7 @@ Among : ℕ → List Row → Type 0
 Among n [] = n ≡ 0
 Among n (r ∷ rows) = (n ≡ r .0) ⊎ Among n rows
 
+-- a table gives one of its numbers, or 0
 given-among : (rows : List Row) → Among (firstGiven (tests rows)) rows
 unfolding Among
 given-among [] = refl
@@ -51,9 +55,11 @@ given-among (r ∷ rows) = go (r .1) (given-among rows)
     go true h = inl refl
     go false h = inr h
 
+-- what a false test of equality shows
 unequal : (m n : ℕ) → not (eqb m n) ≡ true → m ≡ n → ⊥
 unequal m n e h = true≢false (sym e ∙ ap not (eq-eqb m n h))
 
+-- a fresh number is none of the table, nor 0
 fresh-apart : (n k : ℕ) (rows : List Row) → fresh k rows ≡ true → Among n rows → n ≡ k → ⊥
 unfolding Among
 fresh-apart n k [] e m h = unequal k 0 e (sym h ∙ m)

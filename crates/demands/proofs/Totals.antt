@@ -9,7 +9,7 @@ use Rattle.frame.specs.declared.Message.{Message}
 use Rattle.frame.proofs.Laws.{within-split}
 use Rattle.frame.proofs.NineKinds.{nine}
 use Rattle.frame.proofs.Frames.{length-line}
-use Rattle.frame.proofs.RoundTrip.{known}
+use Rattle.frame.proofs.ReadsItsLine.{known}
 use Rattle.demands.specs.Totals.{totals}
 
 -- two digits a byte

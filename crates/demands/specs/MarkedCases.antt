@@ -39,6 +39,7 @@ setup k =
     SetupRequest (record { identifier = 0x1234; caller = 7; callee = 9 })
     (record { commencement = 0; «call_type» = 4; «pck_id» = k })
 
+-- the cases by their letters
 unfoldable pub table : List (String × Case)
 table =
     ("A", reads (bytes "0212340000000700000009\n") (reading ringing noMedia))

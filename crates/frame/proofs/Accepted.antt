@@ -12,6 +12,7 @@ use Rattle.frame.specs.Layout.{digitsOf}
 use Rattle.frame.specs.Line.{messageAt, mediaAt, count, kindAt, Digital, unended, undigital, unkind, misfit, unranged, refusalOf}
 use Rattle.frame.proofs.Laws.{or-split, within-split, passed}
 
+-- the facts, test by test
 pub record Accepted (l : List ℕ) : Type 0 where
   pub some : 1 ≤ length l
   pub final : getD l (count l) 0 ≡ 10
@@ -22,6 +23,7 @@ pub record Accepted (l : List ℕ) : Type 0 where
   pub long : count l ≡ digitsOf (kindAt l)
   pub ranged : inRange (messageAt (kindAt l) l) (mediaAt (kindAt l) l) ≡ true
 
+-- a line whose number is 0 has passed every test
 pub accepted : (l : List ℕ) → refusalOf l ≡ 0 → Accepted l
 unfolding refusalOf
 accepted l e =

@@ -1,23 +1,22 @@
 -- The line of a frame, part by part: its length for every frame, and its fields at their widths for a good one. Assumes nothing.
-use mathlib.Core.Path.{_≡_, refl, sym, ap, ap₂, _∙_}
+use mathlib.Core.Path.{_≡_, refl, ap, _∙_}
 use mathlib.Core.Logic.{⊎-elim}
-use mathlib.Core.List.{List, [], _∷_, _++_, append-assoc}
-use mathlib.Core.Bool.{Bool, true, false, not, _&&_, _||_, cond}
-use Prim.Native.Nat.{ℕ, zero, suc, _+_, _/_, _<_, _≤_}
+use mathlib.Core.List.{List, [], _∷_, _++_}
+use mathlib.Core.Bool.{Bool, true, false, cond}
+use Prim.Native.Nat.{ℕ, _+_, _/_, _<_}
 use native.Mathlib.Omega.{arith}
-use native.Mathlib.Nat.{not-suc-le-zero}
 use lib.ListN.{length, length-append}
-use lib.Dec.{eqb, lit<, lit≤, leb}
+use lib.Dec.{eqb, lit<, leb}
 use borrow.Author.Tests.{eqb-true, leb-true}
-use Rattle.frame.specs.Digits.{Width, one, two, four, digitCount, size, largest, inHex, allDigits, total, allInHex}
-use Rattle.frame.specs.Range.{within, neverZero, pckGood, mediaGood, partiesGood, setupGood, groupCallGood, acceptanceGood, messageGood, inRange, kindOf, carries}
-use Rattle.frame.specs.Layout.{front, back, mediaPlace, mediaCount, backPlace, digitsOf, partiesThen, frontOf, backOf, mediaInHex, frameInHex, lineOf}
+use Rattle.frame.specs.Digits.{Width, one, two, four, digitCount, size, largest, inHex, allInHex}
+use Rattle.frame.specs.Range.{within, neverZero, pckGood, partiesGood, setupGood, groupCallGood, acceptanceGood, messageGood, kindOf, carries}
+use Rattle.frame.specs.Layout.{front, back, mediaPlace, mediaCount, digitsOf, partiesThen, frontOf, backOf, mediaInHex, frameInHex, lineOf}
 use Rattle.frame.specs.declared.Media.{Media}
 use Rattle.frame.specs.declared.Parties.{Parties}
 use Rattle.frame.specs.declared.Message.{Message}
 use Rattle.frame.specs.declared.Message.the-variants.{SetupRequest, Ringing, Accept, Reject, Release, ReleaseAck, AcceptAck, Announcement, GroupAccept}
 use Rattle.frame.proofs.Laws.{and-split, or-cases, within-split}
-use Rattle.frame.proofs.Hex.{size-pos, length-hex, hex-hex, allDigits-append, Fit, length-all, all-hex}
+use Rattle.frame.proofs.Hex.{size-pos, length-hex, Fit, length-all}
 
 -- ---- lengths
 
@@ -33,9 +32,11 @@ counted (AcceptAck p) = (refl, refl)
 counted (Announcement c confirm) = (refl, refl)
 counted (GroupAccept a) = (refl, refl)
 
+-- the digits before the media
 pub length-front : (m : Message) → length (allInHex (front (kindOf m)) (frontOf m)) ≡ mediaPlace (kindOf m)
 length-front m = length-all (front (kindOf m)) (frontOf m) (counted m .0)
 
+-- the digits of the media
 pub length-media : (kind : ℕ) (media : Media) → length (mediaInHex kind media) ≡ mediaCount kind
 length-media kind media = go (carries kind)
   where
@@ -43,6 +44,7 @@ length-media kind media = go (carries kind)
     go true = length-hex four (media .number)
     go false = refl
 
+-- the digits of a frame
 pub length-frame : (m : Message) (media : Media) → length (frameInHex m media) ≡ digitsOf (kindOf m)
 unfolding frameInHex digitsOf
 length-frame m media =
@@ -55,38 +57,47 @@ length-frame m media =
     let e₃ = length-media (kindOf m) media in
     let e₄ = length-all (back (kindOf m)) (backOf m) (counted m .1) in omega arith
 
+-- the bytes of a line
 pub length-line : (m : Message) (media : Media) → length (lineOf m media) ≡ digitsOf (kindOf m) + 1
 unfolding lineOf
 length-line m media = length-append (frameInHex m media) (10 ∷ []) ∙ ap (λ (n : ℕ). n + 1) (length-frame m media)
 
 -- ---- the fields of a good frame are numbers of their widths
 
+-- a field that is never 0
 pub short : (w : Width) (v : ℕ) → neverZero w v ≡ true → v < size w
 short w v e =
     let p = within-split 1 v (largest w) e in
     let q = size-pos w in omega arith
 
+-- a field with a highest value
 byte : (v high : ℕ) → leb v high ≡ true → high < 256 → v < size one
 byte v high e h = let p = leb-true v high e in omega arith
 
+-- a time
 time : (v : ℕ) → leb v (largest four) ≡ true → v < size four
 time v e = let p = leb-true v 4294967295 e in omega arith
 
+-- a PCK-ID
 pck : (v : ℕ) → pckGood v ≡ true → v < size four
 pck v e = ⊎-elim (λ z. let h : v ≡ 0 = eqb-true v 0 z in omega arith) (λ t. let h : v / 268435456 ≡ 3 = eqb-true _ 3 t in omega arith) (or-cases (eqb v 0) (eqb (v / 268435456) 3) e)
 
+-- a private call, and what follows it
 parties-fit : (p : Parties) (ws : List Width) (vs : List ℕ) → partiesGood p ≡ true → Fit ws vs → Fit (two ∷ four ∷ four ∷ ws) (partiesThen p vs)
 unfolding partiesGood
 parties-fit p ws vs g f =
     let a = and-split _ _ g in
     let b = and-split _ _ (a .1) in (short two _ (a .0), (short four _ (b .0), (short four _ (b .1), f)))
 
+-- the type of a setup request
 private-type : (v : ℕ) → eqb v 4 ≡ true → v < size one
 private-type v e = let h = eqb-true v 4 e in omega arith
 
+-- the type of a group call
 group-type : (v : ℕ) → within 1 v 3 ≡ true → v < size one
 group-type v e = let p = within-split 1 v 3 e in omega arith
 
+-- every field of a good message is a number of its width
 pub fit : (m : Message) → messageGood m ≡ true → Fit (front (kindOf m)) (frontOf m) × Fit (back (kindOf m)) (backOf m)
 unfolding setupGood groupCallGood acceptanceGood
 fit (SetupRequest p s) g =

@@ -1,22 +1,23 @@
 -- Numbers in hexadecimal: written and read again, and read and written again. One law over the width for each. Assumes nothing.
-use mathlib.Core.Path.{_≡_, refl, sym, ap, ap₂, _∙_, subst}
+use mathlib.Core.Path.{_≡_, refl, sym, ap, ap₂, _∙_}
 use mathlib.Core.List.{List, [], _∷_, _++_, append-assoc}
 use mathlib.Core.Logic.{⊎-elim}
-use mathlib.Core.Bool.{Bool, true, false, _&&_, _||_, cond}
+use mathlib.Core.Bool.{Bool, true, false, _&&_, cond}
 use Prim.Native.Nat.{ℕ, zero, suc, _+_, _*_, _/_, _%_, _<_, _≤_}
-use native.Mathlib.Nat.{add-zero, add-suc, suc-add, mod-lt, mul-pos, div-lt-iff-lt-mul, div-add-mod', le-of-suc-le-suc, not-suc-le-zero, le-of-lt, lt-of-lt-of-le}
+use native.Mathlib.Nat.{mod-lt, mul-pos, div-lt-iff-lt-mul, div-add-mod'}
 use native.Mathlib.Omega.{arith}
 use native.Mathlib.Numerals.{add-one}
-use lib.ListN.{length, take, drop, getD, set, length-append}
-use lib.Seq.{sets, getD-at, getD-append-add, getD-append-seam, drop-cons, drop-drop, take-add}
+use lib.ListN.{length, take, drop, getD, length-append}
+use lib.Seq.{getD-at, getD-append-add, drop-cons, drop-drop, take-add}
 use lib.Arith.{digits-lt, digits-div, digits-mod}
 use lib.Dec.{ltb, leb, lit≤}
-use borrow.Author.Tests.{lt-ltb, le-ltb, le-leb, lt-leb, ltb-true, ltb-false, leb-true, leb-false}
+use borrow.Author.Tests.{lt-ltb, le-ltb, le-leb, lt-leb, ltb-true, ltb-false}
 use Rattle.frame.specs.Digits.{isDigit, valueOf, digitOf, allDigits, Width, one, twice, digitCount, size, inHex, numberAt, total, allInHex, numbersAt}
 use Rattle.frame.proofs.Laws.{and-split, or-cases, within-split}
 
 -- ---- a digit
 
+-- a digit stands for what it was written for
 value-digit : (n : ℕ) → n < 16 → valueOf (digitOf n) ≡ n
 value-digit n h = go (ltb n 10) refl
   where
@@ -24,6 +25,7 @@ value-digit n h = go (ltb n 10) refl
     go true e = let k : n < 10 = ltb-true _ _ e in simp (e, lt-ltb (48 + n) 58 (omega arith)) (omega arith)
     go false e = let k : 10 ≤ n = ltb-false _ _ e in simp (e, le-ltb (87 + n) 58 (omega arith)) (omega arith)
 
+-- what is written for a number is a digit
 digit-digit : (n : ℕ) → n < 16 → isDigit (digitOf n) ≡ true
 digit-digit n h = go (ltb n 10) refl
   where
@@ -31,6 +33,7 @@ digit-digit n h = go (ltb n 10) refl
     go true e = let k : n < 10 = ltb-true _ _ e in simp (e, le-leb 48 (48 + n) (omega arith), le-leb (48 + n) 57 (omega arith))
     go false e = let k : 10 ≤ n = ltb-false _ _ e in simp (e, lt-leb (87 + n) 57 (omega arith), le-leb 48 (87 + n) (omega arith), le-leb 97 (87 + n) (omega arith), le-leb (87 + n) 102 (omega arith))
 
+-- a digit stands for a number below 16
 pub value-lt : (x : ℕ) → valueOf x < 16
 value-lt x = go (ltb x 58)
   where
@@ -38,6 +41,7 @@ value-lt x = go (ltb x 58)
     go true = omega arith
     go false = omega arith
 
+-- a digit is what is written for its value
 digit-value : (x : ℕ) → isDigit x ≡ true → digitOf (valueOf x) ≡ x
 digit-value x h = ⊎-elim decimal letter (or-cases (leb 48 x && leb x 57) (leb 97 x && leb x 102) h)
   where
@@ -53,27 +57,33 @@ digit-value x h = ⊎-elim decimal letter (or-cases (leb 48 x && leb x 57) (leb 
 
 -- ---- a number
 
+-- every width has numbers
 pub size-pos : (w : Width) → zero < size w
 size-pos one = lit≤ tt
 size-pos (twice w) = mul-pos (size-pos w) (size-pos w)
 
+-- the high half of a number is a number of half the width
 high : (w : Width) (v : ℕ) → v < size (twice w) → v / size w < size w
 high w v h = div-lt-iff-lt-mul (size-pos w) .1 h
 
+-- so is the low half
 low : (w : Width) (v : ℕ) → v % size w < size w
 low w v = mod-lt v (size-pos w)
 
+-- a number has the digits of its width
 pub length-hex : (w : Width) (v : ℕ) → length (inHex w v) ≡ digitCount w
 unfolding inHex
 length-hex one v = refl
 length-hex (twice w) v =
     length-append (inHex w (v / size w)) (inHex w (v % size w)) ∙ ap₂ _+_ (length-hex w (v / size w)) (length-hex w (v % size w))
 
+-- digits behind digits
 pub allDigits-append : (s t : List ℕ) → allDigits s ≡ true → allDigits t ≡ true → allDigits (s ++ t) ≡ true
 unfolding allDigits
 allDigits-append [] t h k = k
 allDigits-append (x ∷ s) t h k = let p = and-split (isDigit x) (allDigits s) h in rw (p .0) (allDigits-append s t (p .1) k)
 
+-- a number is written in digits
 pub hex-hex : (w : Width) (v : ℕ) → v < size w → allDigits (inHex w v) ≡ true
 unfolding inHex allDigits
 hex-hex one v h = simp (digit-digit (v / 16) (omega arith), digit-digit (v % 16) (omega arith))
@@ -100,6 +110,7 @@ num-hex (twice w) v p r at e h =
     (ap (λ (l : List ℕ). numberAt w l (at + digitCount w)) (e₁ ∙ e₂) ∙ num-hex w (v % size w) (p ++ a) r (at + digitCount w) n (low w v))
     ∙ div-add-mod' v (size w)
 
+-- a number that is read is one of its width
 pub num-lt : (w : Width) (l : List ℕ) (at : ℕ) → numberAt w l at < size w
 unfolding numberAt
 num-lt one l at = digits-lt (value-lt (getD l at 0)) (value-lt (getD l (at + 1) 0))
@@ -137,6 +148,7 @@ Fit [] (v ∷ vs) = ⊥
 Fit (w ∷ ws) [] = ⊥
 Fit (w ∷ ws) (v ∷ vs) = (v < size w) × Fit ws vs
 
+-- numbers one after the other have the digits of their widths
 pub length-all : (ws : List Width) (vs : List ℕ) → length ws ≡ length vs → length (allInHex ws vs) ≡ total ws
 unfolding allInHex
 length-all [] vs e = refl
@@ -144,6 +156,7 @@ length-all (w ∷ ws) [] e = let z : ⊥ = omega arith in absurd z
 length-all (w ∷ ws) (v ∷ vs) e =
     length-append (inHex w v) (allInHex ws vs) ∙ ap₂ _+_ (length-hex w v) (length-all ws vs (omega arith))
 
+-- they are written in digits
 pub all-hex : (ws : List Width) (vs : List ℕ) → Fit ws vs → allDigits (allInHex ws vs) ≡ true
 unfolding allInHex allDigits
 all-hex [] [] f = refl

@@ -8,18 +8,22 @@ use lib.Dec.{leb}
 use borrow.Author.Tests.{leb-true}
 use Rattle.frame.specs.Range.{within}
 
+-- both are true
 pub and-split : (a b : Bool) → (a && b) ≡ true → (a ≡ true) × (b ≡ true)
 and-split true b e = (refl, e)
 and-split false b e = absurd (false≢true e)
 
+-- one of the two is true
 pub or-cases : (a b : Bool) → (a || b) ≡ true → (a ≡ true) ⊎ (b ≡ true)
 or-cases true b e = inl refl
 or-cases false b e = inr e
 
+-- both are false
 pub or-split : (a b : Bool) → (a || b) ≡ false → (a ≡ false) × (b ≡ false)
 or-split true b e = absurd (true≢false e)
 or-split false b e = (refl, e)
 
+-- between the two ends
 pub within-split : (low v high : ℕ) → within low v high ≡ true → (low ≤ v) × (v ≤ high)
 within-split low v high e =
     let p = and-split (leb low v) (leb v high) e in (leb-true low v (p .0), leb-true v high (p .1))

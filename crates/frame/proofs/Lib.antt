@@ -4,6 +4,7 @@ pub mod Hex
 pub mod Judged
 pub mod Accepted
 pub mod Frames
-pub mod RoundTrip
+pub mod ReadsItsLine
+pub mod OnlyLine
 pub mod Longest
 pub mod Stores

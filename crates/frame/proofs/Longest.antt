@@ -1,6 +1,6 @@
 -- The longest line. Assumes nothing.
-use mathlib.Core.Path.{_≡_, refl, _∙_}
-use Prim.Native.Nat.{ℕ, _+_, _≤_}
+use mathlib.Core.Path.{_≡_}
+use Prim.Native.Nat.{ℕ, _≤_}
 use native.Mathlib.Omega.{arith}
 use lib.ListN.{length}
 use lib.Dec.{lit≤}
@@ -13,7 +13,7 @@ use Rattle.frame.specs.declared.Message.the-variants.{Announcement}
 use Rattle.frame.proofs.Laws.{within-split}
 use Rattle.frame.proofs.NineKinds.{nine}
 use Rattle.frame.proofs.Frames.{length-line}
-use Rattle.frame.proofs.RoundTrip.{known}
+use Rattle.frame.proofs.ReadsItsLine.{known}
 
 -- no line is longer, and an announcement's line is as long
 pub longest-line : ((m : Message) (media : Media) → length (lineOf m media) ≤ longestLine)

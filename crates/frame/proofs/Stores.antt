@@ -20,6 +20,7 @@ use Rattle.frame.proofs.Frames.{length-front, length-media, length-fram
 
 -- ---- stores one after the other
 
+-- a list, then what follows it
 pub sets-append : (a b l : List ℕ) (i n : ℕ) → i + length a ≡ n → sets l i (a ++ b) ≡ sets (sets l i a) n b
 sets-append [] b l i n e = ap (λ (k : ℕ). sets l k b) (sym (add-zero i) ∙ e)
 sets-append (x ∷ a) b l i n e = sets-append a b (set l i x) (suc i) n (suc-add i (length a) ∙ sym (add-suc i (length a)) ∙ e)
@@ -33,14 +34,16 @@ pub sets-twice : (w : Width) (l : List ℕ) (i v : ℕ) → sets (sets l i (inHe
 unfolding inHex
 sets-twice w l i v = sym (sets-hex l i w (v / size w) (inHex w (v % size w)))
 
--- numbers one after the other are the first and then the rest
-pub all-cons : (w : Width) (ws : List Width) (v : ℕ) (vs : List ℕ) → allInHex (w ∷ ws) (v ∷ vs) ≡ inHex w v ++ allInHex ws vs
+-- numbers one after the other: the first, then the rest
+pub sets-cons : (l : List ℕ) (i : ℕ) (w : Width) (ws : List Width) (v : ℕ) (vs : List ℕ)
+    → sets l i (allInHex (w ∷ ws) (v ∷ vs)) ≡ sets (sets l i (inHex w v)) (i + digitCount w) (allInHex ws vs)
 unfolding allInHex
-all-cons w ws v vs = refl
+sets-cons l i w ws v vs = sets-hex l i w v (allInHex ws vs)
 
-pub all-none : (vs : List ℕ) → allInHex [] vs ≡ []
+-- no numbers, nothing stored
+pub sets-none : (l : List ℕ) (i : ℕ) (vs : List ℕ) → sets l i (allInHex [] vs) ≡ l
 unfolding allInHex
-all-none vs = refl
+sets-none l i vs = refl
 
 -- a frame's three parts, each at its place
 pub sets-frame : (m : Message) (media : Media) (out : List ℕ) → sets (sets (sets out 0 (allInHex (front (kindOf m)) (frontOf m))) (mediaPlace (kindOf m)) (mediaInHex (kindOf m) media)) (backPlace (kindOf m)) (allInHex (back (kindOf m)) (backOf m)) ≡ sets out 0 (frameInHex m media)
@@ -60,16 +63,19 @@ gives m media out number length after =
     (_≡_ {A = Written} (record { number = number; length = length }) (writtenOf m media out)) × (after ≡ bufferOf m media out)
 
 module _ (m : Message) (media : Media) (out : List ℕ) where
+  -- a field out of range: 5
   pub unranged : inRange m media ≡ false → gives m media out 5 0 out
   unfolding writtenOf bufferOf writeNumber
   unranged b = (simp b, simp b)
 
+  -- a buffer that is too short: 6
   pub no-room : inRange m media ≡ true → length out ≤ digitsOf (kindOf m) → gives m media out 6 0 out
   unfolding writtenOf bufferOf writeNumber
   no-room g h =
       let n = length-line m media in
       let t = lt-ltb (length out) (length (lineOf m media)) (omega arith) in (simp (g, t), simp (g, t))
 
+  -- the digits and 0A, stored one after the other
   stored : digitsOf (kindOf m) < length out → set (sets out 0 (frameInHex m media)) (digitsOf (kindOf m)) 10 ≡ lineOf m media ++ drop (length (lineOf m media)) out
   unfolding lineOf
   stored h =
@@ -78,6 +84,7 @@ module _ (m : Message) (media : Media) (out : List ℕ) where
       sym (sets-append hs (10 ∷ []) out 0 (digitsOf (kindOf m)) (zero-add (length hs) ∙ length-frame m media))
       ∙ sets-eq (lineOf m media) out 0 (omega arith) ∙ ap (λ (k : ℕ). lineOf m media ++ drop k out) (zero-add (length (lineOf m media)))
 
+  -- a buffer that has room: the line
   pub room : inRange m media ≡ true → digitsOf (kindOf m) < length out
       → gives m media out 0 (digitsOf (kindOf m) + 1) (set (sets out 0 (frameInHex m media)) (digitsOf (kindOf m)) 10)
   unfolding writtenOf bufferOf writeNumber

@@ -48,16 +48,19 @@ groupCallOf f b =
 abbrev pub acceptanceOf : List ℕ → Acceptance
 acceptanceOf f = record { identifier = getD f 1 0; sender = getD f 2 0; «call_type» = getD f 3 0; group = getD f 4 0 }
 
--- the same, from the digits of a line; the back's stand from place `at` on
+-- a private call, from the digits of a line
 abbrev pub partiesAt : List ℕ → Parties
 partiesAt l = partiesOf (numbersAt (front 2) l 0)
 
+-- a setup, its back from place `at` on
 abbrev pub setupAt : List ℕ → ℕ → Setup
 setupAt l at = setupOf (numbersAt (front 1) l 0) (numbersAt (back 1) l at)
 
+-- a group call, its back from place `at` on
 abbrev pub groupCallAt : List ℕ → ℕ → GroupCall
 groupCallAt l at = groupCallOf (numbersAt (front 8) l 0) (numbersAt (back 8) l at)
 
+-- an acceptance
 abbrev pub acceptanceAt : List ℕ → Acceptance
 acceptanceAt l = acceptanceOf (numbersAt (front 9) l 0)
 

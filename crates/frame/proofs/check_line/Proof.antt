@@ -13,31 +13,39 @@ use borrow.Author.Needs.{needs}
 use Rattle.frame.proofs.check_line.Statement.{statement}
 use Rattle.frame.proofs.check_line.Tie as tie
 
--- past each test the number that it gives does not hold
+-- the start, seen from past the second test
 abbrev at₂ : tie.Else2 → tie.Start
 at₂ c = c .before .before .before .before
 
+-- the start, seen from past the fourth test
 abbrev at₄ : tie.Else4 → tie.Start
 at₄ c = at₂ (c .before .before .before)
 
+-- and from past the fifth
 abbrev at₅ : tie.Else5 → tie.Start
 at₅ c = at₄ (c .before .before .before)
 
+-- the line that was lent
 abbrev line : tie.Start → List ℕ
 line c = c .args .line .now
 
+-- past 1
 ended : (c : tie.Else2) → unended (line (at₂ c)) ≡ false
 ended c = simp (ne-eqb _ _ (c .before .before .if1 .left), eq-eqb _ _ (c .if2 .left))
 
+-- past 2
 digital : (c : tie.Else3) → undigital (line (at₂ (c .before .before))) ≡ false
 digital c = ap not (sym (c .before .all-digits .ensures)) ∙ c .if3 .left
 
+-- what the test of the kind says
 judged : (c : tie.After-kind-good) → not (within 1 (kindAt (line (at₄ (c .before .before)))) 9) ≡ not (c .kind-good .result)
 judged c = ap (λ (k : ℕ). not (within 1 k 9)) (sym (c .before .one-at .ensures)) ∙ ap not (sym (c .kind-good .ensures))
 
+-- past 3
 kind : (c : tie.Else5) → unkind (line (at₅ c)) ≡ false
 kind c = simp (le-ltb _ _ (c .before .before .before .if4 .left)) (judged (c .before) ∙ c .if5 .left)
 
+-- past 4
 fits : (c : tie.Else6) → misfit (line (at₅ (c .before .before))) ≡ false
 fits c =
     simp (eq-eqb _ _ (c .if6 .left ∙ c .before .digits-of .ensures ∙ ap digitsOf (c .before .before .before .before .one-at .ensures)))
@@ -81,6 +89,7 @@ frame-fits-requires c κs =
     let h : within 1 (p .before .before .one-at .result) 9 ≡ true = sym (p .before .kind-good .ensures) ∙ not-false _ (p .if5 .left) in
     (within-split 1 (p .before .before .one-at .result) 9 h, (omega (arith, c .if6 .left, c .before .digits-of .ensures), not-false _ (digital (p .before .before .before .before))))
 
+-- what the test of the ranges says
 ranged : (c : tie.After-frame-fits) → unranged (line (at₅ (c .before .before .before))) ≡ not (c .frame-fits .result)
 ranged c =
     let p = c .before .before .before in

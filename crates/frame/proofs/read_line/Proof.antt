@@ -12,6 +12,7 @@ use Rattle.frame.proofs.read_line.Tie as tie
 zero : (c : tie.Else1) → refusalOf (c .before .before .before .args .line .now) ≡ 0
 zero c = sym (c .before .check-line .ensures) ∙ c .if1 .left
 
+-- so all that an accepted line is, it is
 facts : (c : tie.Else1) → Accepted (c .before .before .before .args .line .now)
 facts c = accepted _ (zero c)
 

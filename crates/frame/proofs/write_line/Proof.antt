@@ -1,6 +1,6 @@
 -- `frame::write_line` meets its contract: the three cases of a line to write. Assumes nothing.
 use mathlib.Core.Path.{_≡_, refl, sym, ap, _∙_}
-use mathlib.Core.Bool.{true, false}
+use mathlib.Core.Bool.{true}
 use native.Mathlib.Omega.{arith}
 use borrow.Author.Tests.{not-true, not-false}
 use Rattle.frame.specs.Range.{inRange, kindOf}
@@ -10,10 +10,11 @@ use borrow.Author.Needs.{needs}
 use Rattle.frame.proofs.write_line.Statement.{statement}
 use Rattle.frame.proofs.write_line.Tie as tie
 
--- past the first test every field is in its range, and the count is that of the kind
+-- past the first test every field is in its range
 ranged : (c : tie.Else1) → inRange (c .before .before .before .args .message) (c .before .before .before .args .media) ≡ true
 ranged c = sym (c .before .in-range .ensures) ∙ not-false _ (c .if1 .left)
 
+-- the count is that of the kind
 counted : (c : tie.After-digits-of) → c .digits-of .result ≡ digitsOf (kindOf (c .before .before .before .before .before .args .message))
 counted c = c .digits-of .ensures ∙ ap digitsOf (c .before .kind-of .ensures)
 

@@ -1,5 +1,5 @@
 -- `frame::fields::message_at` meets its contract: the fields of each kind. Assumes nothing.
-use mathlib.Core.Path.{_≡_, subst}
+use mathlib.Core.Path.{_≡_}
 use Prim.Native.Nat.{ℕ, _≤_}
 use native.Mathlib.Omega.{arith}
 use lib.ListN.{length}
@@ -14,6 +14,7 @@ use Rattle.frame.proofs.fields.message_at.Tie as tie
 room : (c : tie.Start) (k : ℕ) → c .args .kind ≡ k → digitsOf k ≤ length (c .args .line .now)
 room c k e = rw e at (c .pre .1)
 
+-- in the last arm the kind is 9
 last : (c : tie.At-match-rest) → c .before .before .args .kind ≡ 9
 last c = let p = c .before .before .pre .0 in ninth _ (p .0) (p .1) (c .match .rest)
 

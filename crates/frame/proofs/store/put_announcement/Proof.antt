@@ -1,5 +1,4 @@
 -- `frame::store::put_announcement` meets its contract: the front, the media, the back. Assumes nothing.
-use Rattle.frame.specs.Digits.{allInHex}
 use Rattle.frame.proofs.Stores.{sets-frame}
 use borrow.Author.Needs.{needs}
 use Rattle.frame.proofs.store.put_announcement.Statement.{statement}

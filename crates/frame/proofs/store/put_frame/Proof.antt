@@ -7,7 +7,7 @@ use Rattle.frame.specs.Digits.{allInHex}
 use Rattle.frame.specs.Range.{kindOf}
 use Rattle.frame.specs.Layout.{digitsOf}
 use Rattle.frame.specs.declared.Message.{Message}
-use Rattle.frame.proofs.Stores.{sets-hex, sets-frame, all-cons, all-none}
+use Rattle.frame.proofs.Stores.{sets-cons, sets-none, sets-frame}
 use borrow.Author.Needs.{needs}
 use Rattle.frame.proofs.store.put_frame.Statement.{statement}
 use Rattle.frame.proofs.store.put_frame.Tie as tie
@@ -48,7 +48,7 @@ put-frame-spec =
     (λ c. search needs)
     (λ c. rw (c .before .before .put-four .ensures, c .before .before .before .before .before .before .put-parties2 .ensures, c .before .before .before .before .before .before .before .before .before .message3 .given .1, ← sets-frame))
     (λ c. search needs)
-    (λ c. rw (c .before .before .put-one .ensures, c .before .before .before .before .before .before .put-parties3 .ensures, c .before .before .before .before .before .before .before .before .before .message4 .given .1, ← sets-frame) (simp (all-cons, all-none, sets-hex)))
+    (λ c. rw (c .before .before .put-one .ensures, c .before .before .before .before .before .before .put-parties3 .ensures, c .before .before .before .before .before .before .before .before .before .message4 .given .1, ← sets-frame) (simp (sets-cons, sets-none)))
     (λ c. search needs)
     (λ c. rw (c .before .before .put-parties4 .ensures, c .before .before .before .before .before .message5 .given .1, ← sets-frame))
     (λ c. search needs)

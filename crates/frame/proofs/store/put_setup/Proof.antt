@@ -1,5 +1,5 @@
 -- `frame::store::put_setup` meets its contract: the parties, then each field at its place. Assumes nothing.
-use Rattle.frame.proofs.Stores.{sets-hex, sets-frame, all-cons, all-none}
+use Rattle.frame.proofs.Stores.{sets-cons, sets-none, sets-frame}
 use borrow.Author.Needs.{needs}
 use Rattle.frame.proofs.store.put_setup.Statement.{statement}
 use Rattle.frame.proofs.store.put_setup.Tie as tie
@@ -14,4 +14,4 @@ put-setup-spec =
     (λ c κs. search needs)
     (λ c κs. search needs)
     (λ c. search needs)
-    (λ c. rw (c .before .before .put-four2 .ensures, c .before .before .before .before .before .before .put-four .ensures, c .before .before .before .before .before .before .before .before .before .before .put-one2 .ensures, c .before .before .before .before .before .before .before .before .before .before .before .before .before .before .put-one .ensures, c .before .before .before .before .before .before .before .before .before .before .before .before .before .before .before .before .before .before .put-parties .ensures, ← sets-frame) (simp (all-cons, all-none, sets-hex))))
+    (λ c. rw (c .before .before .put-four2 .ensures, c .before .before .before .before .before .before .put-four .ensures, c .before .before .before .before .before .before .before .before .before .before .put-one2 .ensures, c .before .before .before .before .before .before .before .before .before .before .before .before .before .before .put-one .ensures, c .before .before .before .before .before .before .before .before .before .before .before .before .before .before .before .before .before .before .put-parties .ensures, ← sets-frame) (simp (sets-cons, sets-none))))

@@ -10,7 +10,8 @@ use lib.ListN.{length, take, getD}
 use lib.Dec.{ltb, leb, eqb}
 use borrow.Author.Tests.{not-true}
 use Rattle.frame.specs.Digits.{isDigit, allDigits}
-use Rattle.frame.specs.Range.{within, inRange}
+use Rattle.frame.specs.Range.{within}
+use Rattle.frame.specs.Frame.{inRange}
 use Rattle.frame.specs.Layout.{digitsOf, lineOf}
 use Rattle.frame.specs.Line.{count, kindAt, unended, undigital, unkind, misfit, unranged, refusalOf, lineNumber}
 use Rattle.frame.specs.Writing.{writeNumber}

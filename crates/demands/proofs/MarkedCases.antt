@@ -10,7 +10,7 @@ use lib.Dec.{ltb, eqb}
 use borrow.Author.Tests.{eqb-true, eqb-false}
 use Rattle.frame.specs.Number.{firstGiven}
 use Rattle.frame.specs.Digits.{allDigits, inHex, numberAt, allInHex, numbersAt}
-use Rattle.frame.specs.Range.{partiesGood, setupGood, groupCallGood, acceptanceGood, inRange}
+use Rattle.frame.specs.Frame.{partiesGood, setupGood, groupCallGood, acceptanceGood, inRange}
 use Rattle.frame.specs.Layout.{digitsOf, frameInHex, lineOf}
 use Rattle.frame.specs.Line.{messageAt, mediaAt, count, refusalOf, readLine, lineNumber}
 use Rattle.frame.specs.Writing.{writeNumber}

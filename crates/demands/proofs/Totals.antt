@@ -2,7 +2,7 @@
 use mathlib.Core.Path.{_≡_, refl, ap, _∙_}
 use Prim.Native.Nat.{ℕ, _+_, _*_, _≤_}
 use lib.ListN.{length, getD}
-use Rattle.frame.specs.Range.{kindOf}
+use Rattle.frame.specs.Frame.{kindOf}
 use Rattle.frame.specs.Layout.{digitsOf, lineOf}
 use Rattle.frame.specs.declared.Media.{Media}
 use Rattle.frame.specs.declared.Message.{Message}

@@ -5,7 +5,7 @@ use mathlib.Core.List.{List, [], _∷_}
 use mathlib.Core.Bool.{false}
 use Prim.Native.Nat.{ℕ, suc, _*_, _-_, _<_, _≤_}
 use lib.ListN.{length, getD}
-use Rattle.frame.specs.Range.{inRange}
+use Rattle.frame.specs.Frame.{inRange}
 use Rattle.frame.specs.Layout.{lineOf}
 use Rattle.frame.specs.Line.{messageAt, mediaAt, kindAt}
 use Rattle.frame.specs.declared.Media.{Media}

@@ -4,7 +4,7 @@ use mathlib.Core.List.{List, [], _∷_}
 use Prim.Native.Nat.{ℕ, _<_}
 use Prim.Native.String.{String}
 use lib.ListN.{length, set}
-use Rattle.frame.specs.Range.{noMedia}
+use Rattle.frame.specs.Media.{noMedia}
 use Rattle.frame.specs.Line.{count, lineNumber, readLine, reading, refusal}
 use Rattle.frame.specs.Writing.{writeNumber}
 use Rattle.frame.specs.declared.Media.{Media}

@@ -7,7 +7,7 @@ use native.Mathlib.Omega.{arith}
 use lib.ListN.{length, getD}
 use lib.Dec.{eqb, ltb, lit≤}
 use borrow.Author.Tests.{ltb-false, eqb-true, eqb-false, not-false}
-use Rattle.frame.specs.Range.{inRange}
+use Rattle.frame.specs.Frame.{inRange}
 use Rattle.frame.specs.Layout.{digitsOf}
 use Rattle.frame.specs.Line.{messageAt, mediaAt, count, kindAt, Digital, unended, undigital, unkind, misfit, unranged, refusalOf}
 use Rattle.frame.proofs.Laws.{or-split, within-split, passed}

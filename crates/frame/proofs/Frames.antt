@@ -8,15 +8,18 @@ use native.Mathlib.Omega.{arith}
 use lib.ListN.{length, length-append}
 use lib.Dec.{eqb, lit<, leb}
 use borrow.Author.Tests.{eqb-true, leb-true}
-use Rattle.frame.specs.Digits.{Width, one, two, four, digitCount, size, largest, inHex, allInHex}
-use Rattle.frame.specs.Range.{within, neverZero, pckGood, partiesGood, setupGood, groupCallGood, acceptanceGood, messageGood, kindOf, carries}
+use Rattle.frame.specs.Digits.{Width, one, two, four, size, largest, allInHex}
+use Rattle.frame.specs.Range.{within, pckGood}
+use Rattle.frame.specs.Media.{mediaDigits, mediaHex}
+use Rattle.frame.specs.Frame.{partiesGood, setupGood, groupCallGood, acceptanceGood, messageGood, kindOf, carries}
 use Rattle.frame.specs.Layout.{front, back, mediaPlace, mediaCount, digitsOf, partiesThen, frontOf, backOf, mediaInHex, frameInHex, lineOf}
 use Rattle.frame.specs.declared.Media.{Media}
 use Rattle.frame.specs.declared.Parties.{Parties}
 use Rattle.frame.specs.declared.Message.{Message}
 use Rattle.frame.specs.declared.Message.the-variants.{SetupRequest, Ringing, Accept, Reject, Release, ReleaseAck, AcceptAck, Announcement, GroupAccept}
 use Rattle.frame.proofs.Laws.{and-split, or-cases, within-split}
-use Rattle.frame.proofs.Hex.{size-pos, length-hex, Fit, length-all}
+use Rattle.frame.proofs.Hex.{short, Fit, length-all}
+use Rattle.frame.proofs.MediaDigits.{length-media-hex}
 
 -- ---- lengths
 
@@ -40,8 +43,8 @@ length-front m = length-all (front (kindOf m)) (frontOf m) (counted m .0)
 pub length-media : (kind : ℕ) (media : Media) → length (mediaInHex kind media) ≡ mediaCount kind
 length-media kind media = go (carries kind)
   where
-    go : (b : Bool) → length (cond b (inHex four (media .number)) []) ≡ cond b (digitCount four) 0
-    go true = length-hex four (media .number)
+    go : (b : Bool) → length (cond b (mediaHex media) []) ≡ cond b mediaDigits 0
+    go true = length-media-hex media
     go false = refl
 
 -- the digits of a frame
@@ -63,12 +66,6 @@ unfolding lineOf
 length-line m media = length-append (frameInHex m media) (10 ∷ []) ∙ ap (λ (n : ℕ). n + 1) (length-frame m media)
 
 -- ---- the fields of a good frame are numbers of their widths
-
--- a field that is never 0
-pub short : (w : Width) (v : ℕ) → neverZero w v ≡ true → v < size w
-short w v e =
-    let p = within-split 1 v (largest w) e in
-    let q = size-pos w in omega arith
 
 -- a field with a highest value
 byte : (v high : ℕ) → leb v high ≡ true → high < 256 → v < size one

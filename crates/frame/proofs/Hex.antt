@@ -12,7 +12,8 @@ use lib.Seq.{getD-at, getD-append-add, drop-cons, drop-drop, take-add}
 use lib.Arith.{digits-lt, digits-div, digits-mod}
 use lib.Dec.{ltb, leb, lit≤}
 use borrow.Author.Tests.{lt-ltb, le-ltb, le-leb, lt-leb, ltb-true, ltb-false}
-use Rattle.frame.specs.Digits.{isDigit, valueOf, digitOf, allDigits, Width, one, twice, digitCount, size, inHex, numberAt, total, allInHex, numbersAt}
+use Rattle.frame.specs.Digits.{isDigit, valueOf, digitOf, allDigits, Width, one, twice, digitCount, size, largest, inHex, numberAt, total, allInHex, numbersAt}
+use Rattle.frame.specs.Range.{neverZero}
 use Rattle.frame.proofs.Laws.{and-split, or-cases, within-split}
 
 -- ---- a digit
@@ -61,6 +62,12 @@ digit-value x h = ⊎-elim decimal letter (or-cases (leb 48 x && leb x 57) (leb 
 pub size-pos : (w : Width) → zero < size w
 size-pos one = lit≤ tt
 size-pos (twice w) = mul-pos (size-pos w) (size-pos w)
+
+-- a field that is never 0
+pub short : (w : Width) (v : ℕ) → neverZero w v ≡ true → v < size w
+short w v e =
+    let p = within-split 1 v (largest w) e in
+    let q = size-pos w in omega arith
 
 -- the high half of a number is a number of half the width
 high : (w : Width) (v : ℕ) → v < size (twice w) → v / size w < size w

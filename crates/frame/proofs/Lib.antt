@@ -2,6 +2,7 @@ pub mod Laws
 pub mod NineKinds
 pub mod Hex
 pub mod Judged
+pub mod MediaDigits
 pub mod Accepted
 pub mod Frames
 pub mod ReadsItsLine

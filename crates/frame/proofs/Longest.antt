@@ -4,7 +4,7 @@ use Prim.Native.Nat.{ℕ, _≤_}
 use native.Mathlib.Omega.{arith}
 use lib.ListN.{length}
 use lib.Dec.{lit≤}
-use Rattle.frame.specs.Range.{kindOf}
+use Rattle.frame.specs.Frame.{kindOf}
 use Rattle.frame.specs.Layout.{digitsOf, lineOf, longestLine}
 use Rattle.frame.specs.declared.Media.{Media}
 use Rattle.frame.specs.declared.GroupCall.{GroupCall}

@@ -9,15 +9,17 @@ use lib.ListN.{length, take, drop, getD, drop-of-length-le}
 use lib.Seq.{take-add, split-at}
 use lib.Dec.{eqb, leb}
 use borrow.Author.Tests.{eq-eqb, eqb-true, leb-true, leb-false}
-use Rattle.frame.specs.Digits.{isDigit, four, digitCount, inHex, numberAt, numbersAt, total, allInHex}
-use Rattle.frame.specs.Range.{kindOf, carries, noMedia, mediaOf, GoodFrame}
+use Rattle.frame.specs.Digits.{isDigit, numbersAt, total, allInHex}
+use Rattle.frame.specs.Media.{noMedia, mediaDigits, mediaHex, mediaFrom}
+use Rattle.frame.specs.Frame.{kindOf, carries, mediaOf, GoodFrame}
 use Rattle.frame.specs.Layout.{front, back, mediaPlace, mediaCount, backPlace, digitsOf, frontFields, frontOf, backOf, mediaInHex, frameInHex, lineOf}
 use Rattle.frame.specs.Line.{messageAt, mediaAt, count, kindAt, refusalOf, numberOf, valuesOf, reading, refusal, readLine, lineNumber, lineMessage}
 use Rattle.frame.specs.declared.Media.{Media}
 use Rattle.frame.specs.declared.Message.{Message}
 use Rattle.frame.specs.declared.Read.the-variants.{Readable, Refused}
 use Rattle.frame.specs.declared.Reading.{Reading}
-use Rattle.frame.proofs.Hex.{hex-num, hex-nums}
+use Rattle.frame.proofs.Hex.{hex-nums}
+use Rattle.frame.proofs.MediaDigits.{media-hex-from}
 use Rattle.frame.proofs.Judged.{digit-in}
 use Rattle.frame.proofs.Accepted.{Accepted, accepted}
 use Rattle.frame.proofs.NineKinds.{nine}
@@ -58,9 +60,9 @@ module _ (l : List ℕ) (a : Accepted l) where
   unfolding mediaAt digitsOf
   media-again = go (carries k) (let e = a .long in omega arith)
     where
-      go : (b : Bool) → mediaPlace k + cond b (digitCount four) 0 ≤ count l
-          → cond b (inHex four (cond b (record { number = numberAt four l (mediaPlace k) }) noMedia .number)) [] ≡ take (cond b (digitCount four) 0) (drop (mediaPlace k) l)
-      go true h = hex-num four l (count l) (mediaPlace k) bytes (omega arith) h
+      go : (b : Bool) → mediaPlace k + cond b mediaDigits 0 ≤ count l
+          → cond b (mediaHex (cond b (mediaFrom l (mediaPlace k)) noMedia)) [] ≡ take (cond b mediaDigits 0) (drop (mediaPlace k) l)
+      go true h = media-hex-from l (count l) (mediaPlace k) bytes (omega arith) h
       go false h = refl
 
   -- and those after it
@@ -97,7 +99,7 @@ module _ (l : List ℕ) (a : Accepted l) where
   unfolding Made mediaAt
   frame-again = record { ranged = a .ranged; itsMedia = ap (λ (n : ℕ). mediaOf n (mediaAt k l)) (is-made .0) ∙ go (carries k) }
     where
-      go : (b : Bool) → _≡_ {A = Media} (cond b (cond b (record { number = numberAt four l (mediaPlace k) }) noMedia) noMedia) (cond b (record { number = numberAt four l (mediaPlace k) }) noMedia)
+      go : (b : Bool) → _≡_ {A = Media} (cond b (cond b (mediaFrom l (mediaPlace k)) noMedia) noMedia) (cond b (mediaFrom l (mediaPlace k)) noMedia)
       go true = refl
       go false = refl
 

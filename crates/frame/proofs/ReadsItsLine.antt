@@ -2,22 +2,25 @@
 use mathlib.Core.Path.{_≡_, refl, sym, ap, ap₂, _∙_}
 use mathlib.Core.List.{List, [], _∷_, _++_, append-assoc}
 use mathlib.Core.Bool.{Bool, true, false, not, _&&_, _||_, cond}
-use Prim.Native.Nat.{ℕ, _<_, _≤_}
+use Prim.Native.Nat.{ℕ, _≤_}
 use native.Mathlib.Omega.{arith}
 use lib.ListN.{length, take, getD, length-append}
 use lib.Seq.{getD-at, take-at}
 use lib.Dec.{lit≤}
 use borrow.Author.Tests.{le-ltb, eq-eqb, ne-eqb}
-use Rattle.frame.specs.Digits.{allDigits, four, size, inHex, numberAt, numbersAt, allInHex}
-use Rattle.frame.specs.Range.{within, kindOf, carries, mediaGood, noMedia, mediaOf, messageGood, inRange, GoodFrame}
+use Rattle.frame.specs.Digits.{allDigits, numbersAt, allInHex}
+use Rattle.frame.specs.Range.{within}
+use Rattle.frame.specs.Media.{mediaGood, noMedia, mediaHex, mediaFrom}
+use Rattle.frame.specs.Frame.{kindOf, carries, mediaOf, messageGood, inRange, GoodFrame}
 use Rattle.frame.specs.Layout.{front, back, mediaPlace, backPlace, digitsOf, frontOf, backOf, mediaInHex, frameInHex, lineOf}
 use Rattle.frame.specs.Line.{messageOf, messageAt, mediaAt, count, kindAt, refusalOf, reading, readLine}
 use Rattle.frame.specs.declared.Media.{Media}
 use Rattle.frame.specs.declared.Message.{Message}
 use Rattle.frame.specs.declared.Message.the-variants.{SetupRequest, Ringing, Accept, Reject, Release, ReleaseAck, AcceptAck, Announcement, GroupAccept}
 use Rattle.frame.proofs.Laws.{and-split}
-use Rattle.frame.proofs.Hex.{hex-hex, allDigits-append, num-hex, all-hex, nums-hex}
-use Rattle.frame.proofs.Frames.{short, fit, length-front, length-media, length-frame, length-line}
+use Rattle.frame.proofs.Hex.{allDigits-append, all-hex, nums-hex}
+use Rattle.frame.proofs.MediaDigits.{media-hex, media-from-hex}
+use Rattle.frame.proofs.Frames.{fit, length-front, length-media, length-frame, length-line}
 
 -- a frame is made again of its fields, and its kind is one of the nine, with two digits at least
 pub known : (m : Message) → (messageOf (kindOf m) (frontOf m) (backOf m) ≡ m) × (within 1 (kindOf m) 9 ≡ true) × (2 ≤ digitsOf (kindOf m))
@@ -50,9 +53,9 @@ module _ (m : Message) (media : Media) (g : inRange m media ≡ true) where
   unfolding inRange
   good = and-split _ _ g
 
-  -- media that is carried is a number of four bytes
-  fits-four : carries kind ≡ true → media .number < size four
-  fits-four e = short four (media .number) (ap (λ (b : Bool). not b || mediaGood media) (sym e) ∙ good .0)
+  -- media that is carried is in its range
+  carried : carries kind ≡ true → mediaGood media ≡ true
+  carried e = ap (λ (b : Bool). not b || mediaGood media) (sym e) ∙ good .0
 
   -- the line in its three parts
   parts : lineOf m media ≡ ahead ++ (mediaInHex kind media ++ behind)
@@ -88,11 +91,11 @@ module _ (m : Message) (media : Media) (g : inRange m media ≡ true) where
   -- and so does the media, where it is carried
   media-read : mediaAt kind (lineOf m media) ≡ mediaOf kind media
   unfolding mediaAt
-  media-read = ap (λ (l : List ℕ). cond (carries kind) (record { number = numberAt four l (mediaPlace kind) }) noMedia) parts ∙ go (carries kind) refl
+  media-read = ap (λ (l : List ℕ). cond (carries kind) (mediaFrom l (mediaPlace kind)) noMedia) parts ∙ go (carries kind) refl
     where
       go : (b : Bool) → carries kind ≡ b
-          → _≡_ {A = Media} (cond b (record { number = numberAt four (ahead ++ (cond b (inHex four (media .number)) [] ++ behind)) (mediaPlace kind) }) noMedia) (cond b media noMedia)
-      go true e = ap (λ (n : ℕ). record { number = n }) (num-hex four (media .number) ahead behind (mediaPlace kind) (length-front m) (fits-four e))
+          → _≡_ {A = Media} (cond b (mediaFrom (ahead ++ (cond b (mediaHex media) [] ++ behind)) (mediaPlace kind)) noMedia) (cond b media noMedia)
+      go true e = media-from-hex media ahead behind (mediaPlace kind) (length-front m) (carried e)
       go false e = refl
 
   -- the digits are those of the kind
@@ -104,8 +107,8 @@ module _ (m : Message) (media : Media) (g : inRange m media ≡ true) where
   unfolding allDigits
   media-digits = go (carries kind) refl
     where
-      go : (b : Bool) → carries kind ≡ b → allDigits (cond b (inHex four (media .number)) []) ≡ true
-      go true e = hex-hex four (media .number) (fits-four e)
+      go : (b : Bool) → carries kind ≡ b → allDigits (cond b (mediaHex media) []) ≡ true
+      go true e = media-hex media (carried e)
       go false e = refl
 
   -- so is all that stands before the line end

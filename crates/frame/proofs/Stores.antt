@@ -9,7 +9,7 @@ use lib.ListN.{length, drop, set}
 use lib.Seq.{sets, sets-eq}
 use borrow.Author.Tests.{lt-ltb, le-ltb}
 use Rattle.frame.specs.Digits.{Width, twice, digitCount, size, inHex, allInHex}
-use Rattle.frame.specs.Range.{inRange, kindOf}
+use Rattle.frame.specs.Frame.{inRange, kindOf}
 use Rattle.frame.specs.Layout.{front, back, mediaPlace, backPlace, digitsOf, frontOf, backOf, mediaInHex, frameInHex, lineOf}
 use Rattle.frame.specs.Writing.{writeNumber, writtenOf, bufferOf}
 use Rattle.frame.specs.declared.Media.{Media}

@@ -3,8 +3,9 @@ use Prim.Native.Nat.{ℕ, _+_}
 use mathlib.Core.List.{List, [], _∷_, _++_}
 use mathlib.Core.Bool.{cond}
 use lib.Dec.{eqb}
-use Rattle.frame.specs.Digits.{Width, one, two, four, digitCount, inHex, total, allInHex}
-use Rattle.frame.specs.Range.{kindOf, carries}
+use Rattle.frame.specs.Digits.{Width, one, two, four, total, allInHex}
+use Rattle.frame.specs.Media.{mediaDigits, mediaHex}
+use Rattle.frame.specs.Frame.{kindOf, carries}
 use Rattle.frame.specs.declared.Media.{Media}
 use Rattle.frame.specs.declared.Parties.{Parties}
 use Rattle.frame.specs.declared.GroupCall.{GroupCall}
@@ -38,9 +39,9 @@ back kind = cond (eqb kind 1) (four ∷ []) (cond (eqb kind 8) (four ∷ four �
 abbrev pub mediaPlace : ℕ → ℕ
 mediaPlace kind = total (front kind)
 
--- how many digits the media has
+-- how many digits the media has, where the kind carries it
 abbrev pub mediaCount : ℕ → ℕ
-mediaCount kind = cond (carries kind) (digitCount four) 0
+mediaCount kind = cond (carries kind) mediaDigits 0
 
 -- the place where the back's digits start
 abbrev pub backPlace : ℕ → ℕ
@@ -100,7 +101,7 @@ backOf (GroupAccept a) = []
 
 -- the media's digits, where the kind carries media
 abbrev pub mediaInHex : ℕ → Media → List ℕ
-mediaInHex kind media = cond (carries kind) (inHex four (media .number)) []
+mediaInHex kind media = cond (carries kind) (mediaHex media) []
 
 -- the digits of a frame
 unfoldable pub frameInHex : Message → Media → List ℕ

@@ -6,8 +6,10 @@ use mathlib.Core.Bool.{Bool, true, not, _||_, cond}
 use lib.ListN.{getD, length, take}
 use lib.Dec.{ltb, eqb}
 use Rattle.frame.specs.Number.{firstGiven}
-use Rattle.frame.specs.Digits.{allDigits, one, four, numberAt, numbersAt}
-use Rattle.frame.specs.Range.{within, noMedia, carries, inRange}
+use Rattle.frame.specs.Digits.{allDigits, one, numberAt, numbersAt}
+use Rattle.frame.specs.Range.{within}
+use Rattle.frame.specs.Media.{noMedia, mediaFrom}
+use Rattle.frame.specs.Frame.{carries, inRange}
 use Rattle.frame.specs.Layout.{front, back, mediaPlace, backPlace, digitsOf, frontOf, backOf}
 use Rattle.frame.specs.declared.Media.{Media}
 use Rattle.frame.specs.declared.Parties.{Parties}
@@ -83,7 +85,7 @@ messageAt kind l = messageOf kind (numbersAt (front kind) l 0) (numbersAt (back 
 
 -- the media whose digits stand in l, none where the kind carries none
 unfoldable pub mediaAt : ℕ → List ℕ → Media
-mediaAt kind l = cond (carries kind) (record { number = numberAt four l (mediaPlace kind) }) noMedia
+mediaAt kind l = cond (carries kind) (mediaFrom l (mediaPlace kind)) noMedia
 
 -- ---- the numbers 1 to 5
 

@@ -5,7 +5,7 @@ use mathlib.Core.Bool.{not, cond}
 use lib.ListN.{length, drop}
 use lib.Dec.{ltb, eqb}
 use Rattle.frame.specs.Number.{firstGiven}
-use Rattle.frame.specs.Range.{inRange}
+use Rattle.frame.specs.Frame.{inRange}
 use Rattle.frame.specs.Layout.{lineOf}
 use Rattle.frame.specs.declared.Media.{Media}
 use Rattle.frame.specs.declared.Message.{Message}

@@ -5,13 +5,14 @@ use crate::Media;
 use crate::Message;
 use crate::Parties;
 use crate::Setup;
+use crate::carried::media_from;
 use crate::digits::four_at;
 use crate::digits::one_at;
 use crate::digits::two_at;
 ghost use mathlib.Core.Path.{_≡_};
 ghost use Prim.Native.Nat.{_+_, _≤_};
 ghost use lib.ListN.{length};
-ghost use Rattle.frame.specs.Range.{kindOf};
+ghost use Rattle.frame.specs.Frame.{kindOf};
 ghost use Rattle.frame.specs.Layout.{digitsOf};
 ghost use Rattle.frame.specs.Line.{partiesAt, setupAt, groupCallAt, acceptanceAt, messageAt, mediaAt};
 
@@ -125,15 +126,9 @@ pub(crate) fn media_at(line: &[u8], kind: u8) -> Media
     ensures { λ r. ⌜ r ≡ mediaAt kind (now (line .entry)) ⌝ }
 {
     match kind {
-        1 => Media {
-            number: four_at(line, 26),
-        },
-        3 => Media {
-            number: four_at(line, 22),
-        },
-        8 => Media {
-            number: four_at(line, 20),
-        },
+        1 => media_from(line, 26),
+        3 => media_from(line, 22),
+        8 => media_from(line, 20),
         _ => Media::NONE,
     }
 }

@@ -1,4 +1,5 @@
 // The ranges judged on a line's digits: no message is made.
+use crate::carried::media_fits;
 use crate::digits::four_at;
 use crate::digits::one_at;
 use crate::range::flag_good;
@@ -10,7 +11,8 @@ ghost use mathlib.Core.Path.{_≡_};
 ghost use Prim.Native.Nat.{_+_, _<_, _≤_};
 ghost use lib.ListN.{length};
 ghost use Rattle.frame.specs.Digits.{one, two, four, numberAt};
-ghost use Rattle.frame.specs.Range.{neverZero, partiesGood, setupGood, groupCallGood, acceptanceGood, inRange};
+ghost use Rattle.frame.specs.Range.{neverZero};
+ghost use Rattle.frame.specs.Frame.{partiesGood, setupGood, groupCallGood, acceptanceGood, inRange};
 ghost use Rattle.frame.specs.Layout.{digitsOf};
 ghost use Rattle.frame.specs.Line.{partiesAt, setupAt, groupCallAt, acceptanceAt, messageAt, mediaAt, Digital};
 
@@ -33,7 +35,7 @@ fn two_fits(line: &[u8], at: usize) -> bool
 }
 
 // The same of a number of four bytes.
-fn four_fits(line: &[u8], at: usize) -> bool
+pub(crate) fn four_fits(line: &[u8], at: usize) -> bool
     requires { ⌜ at + 8 < length (now line) ⌝ }
     requires { ⌜ Digital (now line) ⌝ }
     ensures { λ r. ⌜ r ≡ neverZero four (numberAt four (now (line .entry)) at) ⌝ }
@@ -91,14 +93,14 @@ pub(crate) fn frame_fits(line: &[u8], kind: u8) -> bool
     ensures { λ r. ⌜ r ≡ inRange (messageAt kind (now (line .entry))) (mediaAt kind (now (line .entry))) ⌝ }
 {
     match kind {
-        1 => four_fits(line, 26) & (parties_fit(line) & setup_fits(line, 34)),
+        1 => media_fits(line, 26) & (parties_fit(line) & setup_fits(line, 34)),
         2 => parties_fit(line),
-        3 => four_fits(line, 22) & parties_fit(line),
+        3 => media_fits(line, 22) & parties_fit(line),
         4 => parties_fit(line) & reason_good(one_at(line, 22)),
         5 => parties_fit(line),
         6 => parties_fit(line),
         7 => parties_fit(line),
-        8 => four_fits(line, 20) & (group_call_fits(line, 28) & flag_good(one_at(line, 60))),
+        8 => media_fits(line, 20) & (group_call_fits(line, 28) & flag_good(one_at(line, 60))),
         _ => acceptance_fits(line),
     }
 }

@@ -1,4 +1,5 @@
 // Lines of the cab terminal: the nine kinds of message, the reader and the writer of their lines.
+mod carried;
 mod digits;
 mod fields;
 mod judge;

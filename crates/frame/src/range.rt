@@ -5,10 +5,11 @@ use crate::Media;
 use crate::Message;
 use crate::Parties;
 use crate::Setup;
+use crate::carried::media_good;
 ghost use mathlib.Core.Path.{_≡_};
 ghost use Rattle.frame.specs.Digits.{two, four};
 ghost use Rattle.frame.specs.Range.{within, neverZero, timeGood, flagGood, typeGood, reasonGood, pckGood};
-ghost use Rattle.frame.specs.Range.{mediaGood, partiesGood, setupGood, groupCallGood, acceptanceGood, inRange};
+ghost use Rattle.frame.specs.Frame.{partiesGood, setupGood, groupCallGood, acceptanceGood, inRange};
 
 // A kind from 01 to 09.
 pub(crate) fn kind_good(kind: u8) -> bool
@@ -25,7 +26,7 @@ fn two_good(v: u16) -> bool
 }
 
 // A user or a group.
-fn four_good(v: u32) -> bool
+pub(crate) fn four_good(v: u32) -> bool
     ensures { λ r. ⌜ r ≡ neverZero four v ⌝ }
 {
     (1 <= v) & (v <= 4294967295)
@@ -67,13 +68,6 @@ pub(crate) fn pck_good(pck_id: u32) -> bool
     ensures { λ r. ⌜ r ≡ pckGood «pck_id» ⌝ }
 {
     (pck_id == 0) | (pck_id / 0x1000_0000 == 0b0011)
-}
-
-// The media of a frame whose kind carries media.
-fn media_good(media: Media) -> bool
-    ensures { λ r. ⌜ r ≡ mediaGood media ⌝ }
-{
-    four_good(media.number)
 }
 
 // The fields of a private call.

@@ -5,6 +5,7 @@ use crate::Media;
 use crate::Message;
 use crate::Parties;
 use crate::Setup;
+use crate::carried::put_media;
 use crate::put::put_four;
 use crate::put::put_one;
 use crate::put::put_two;
@@ -14,7 +15,7 @@ ghost use Prim.Native.Nat.{_+_, _≤_};
 ghost use lib.ListN.{length};
 ghost use lib.Seq.{sets};
 ghost use Rattle.frame.specs.Digits.{allInHex};
-ghost use Rattle.frame.specs.Range.{kindOf};
+ghost use Rattle.frame.specs.Frame.{kindOf};
 ghost use Rattle.frame.specs.Layout.{front, back, digitsOf, frameInHex};
 ghost use Rattle.frame.specs.Layout.{partiesThen, groupFront, groupBack, acceptanceThen};
 
@@ -37,7 +38,7 @@ fn put_setup(out: &mut [u8], p: Parties, s: Setup, media: Media)
     put_parties(out, 1, p);
     put_one(out, 22, s.commencement);
     put_one(out, 24, s.call_type);
-    put_four(out, 26, media.number);
+    put_media(out, 26, media);
     put_four(out, 34, s.pck_id);
 }
 
@@ -71,7 +72,7 @@ fn put_announcement(out: &mut [u8], c: GroupCall, confirm: u8, media: Media)
     ensures { λ _. ⌜ now (out .exit) ≡ sets (now (out .entry)) 0 (frameInHex (Message.Announcement c confirm) media) ⌝ }
 {
     put_group_front(out, c);
-    put_four(out, 20, media.number);
+    put_media(out, 20, media);
     put_group_back(out, 28, c, confirm);
 }
 
@@ -97,7 +98,7 @@ pub(crate) fn put_frame(out: &mut [u8], message: Message, media: Media)
         Message::Ringing(p) => put_parties(out, 2, p),
         Message::Accept(p) => {
             put_parties(out, 3, p);
-            put_four(out, 22, media.number);
+            put_media(out, 22, media);
         }
         Message::Reject(p, reason) => {
             put_parties(out, 4, p);

@@ -5,7 +5,8 @@ use mathlib.Core.Bool.{true, false, not}
 use Prim.Native.Nat.{ℕ}
 use native.Mathlib.Omega.{arith}
 use borrow.Author.Tests.{eq-eqb, ne-eqb, lt-ltb, le-ltb, not-false}
-use Rattle.frame.specs.Range.{within, inRange}
+use Rattle.frame.specs.Range.{within}
+use Rattle.frame.specs.Frame.{inRange}
 use Rattle.frame.specs.Layout.{digitsOf}
 use Rattle.frame.specs.Line.{messageAt, mediaAt, kindAt, unended, undigital, unkind, misfit, unranged, refusalOf}
 use Rattle.frame.proofs.Laws.{within-split}

@@ -3,7 +3,7 @@ use mathlib.Core.Path.{_≡_, refl, sym, ap, _∙_}
 use mathlib.Core.Bool.{true}
 use native.Mathlib.Omega.{arith}
 use borrow.Author.Tests.{not-true, not-false}
-use Rattle.frame.specs.Range.{inRange, kindOf}
+use Rattle.frame.specs.Frame.{inRange, kindOf}
 use Rattle.frame.specs.Layout.{digitsOf}
 use Rattle.frame.proofs.Stores.{unranged, no-room, room}
 use borrow.Author.Needs.{needs}

@@ -1,6 +1,6 @@
 -- `frame::judge::acceptance_fits` meets its contract: each field in its range. Assumes nothing.
 use Rattle.frame.specs.Digits.{numbersAt}
-use Rattle.frame.specs.Range.{acceptanceGood}
+use Rattle.frame.specs.Frame.{acceptanceGood}
 use borrow.Author.Needs.{needs}
 use Rattle.frame.proofs.judge.acceptance_fits.Statement.{statement}
 use Rattle.frame.proofs.judge.acceptance_fits.Tie as tie

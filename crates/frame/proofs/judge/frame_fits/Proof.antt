@@ -4,7 +4,7 @@ use Prim.Native.Nat.{ℕ, _<_}
 use native.Mathlib.Omega.{arith}
 use lib.ListN.{length}
 use Rattle.frame.specs.Digits.{numbersAt}
-use Rattle.frame.specs.Range.{inRange}
+use Rattle.frame.specs.Frame.{inRange}
 use Rattle.frame.specs.Layout.{digitsOf}
 use Rattle.frame.specs.Line.{messageAt, mediaAt}
 use Rattle.frame.proofs.NineKinds.{ninth}
@@ -42,12 +42,12 @@ frame-fits-spec =
     (λ c κs. omega (arith, room (c .before .before .before .before) 8 (c .before .before .match .keys8)))
     (λ c κs. search needs)
     (λ c κs. (omega (arith, room (c .before .before) 9 (last (c))), c .before .before .pre .1 .1))
-    (λ c. rw (c .setup-fits .ensures, c .before .parties-fit .ensures, c .before .before .four-fits .ensures, c .before .before .before .match .keys1))
+    (λ c. rw (c .setup-fits .ensures, c .before .parties-fit .ensures, c .before .before .media-fits .ensures, c .before .before .before .match .keys1))
     (λ c. rw (c .parties-fit2 .ensures, c .before .match .keys2))
-    (λ c. rw (c .parties-fit3 .ensures, c .before .four-fits2 .ensures, c .before .before .match .keys3))
+    (λ c. rw (c .parties-fit3 .ensures, c .before .media-fits2 .ensures, c .before .before .match .keys3))
     (λ c. rw (c .reason-good .ensures, c .before .one-at .ensures, c .before .before .parties-fit4 .ensures, c .before .before .before .match .keys4))
     (λ c. rw (c .parties-fit5 .ensures, c .before .match .keys5))
     (λ c. rw (c .parties-fit6 .ensures, c .before .match .keys6))
     (λ c. rw (c .parties-fit7 .ensures, c .before .match .keys7))
-    (λ c. rw (c .flag-good .ensures, c .before .one-at2 .ensures, c .before .before .group-call-fits .ensures, c .before .before .before .four-fits3 .ensures, c .before .before .before .before .match .keys8))
+    (λ c. rw (c .flag-good .ensures, c .before .one-at2 .ensures, c .before .before .group-call-fits .ensures, c .before .before .before .media-fits3 .ensures, c .before .before .before .before .match .keys8))
     (λ c. rw (c .acceptance-fits .ensures, last (c .before))))

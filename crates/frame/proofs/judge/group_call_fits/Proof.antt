@@ -1,6 +1,6 @@
 -- `frame::judge::group_call_fits` meets its contract: each field in its range. Assumes nothing.
 use Rattle.frame.specs.Digits.{numbersAt}
-use Rattle.frame.specs.Range.{groupCallGood}
+use Rattle.frame.specs.Frame.{groupCallGood}
 use Rattle.frame.proofs.Hex.{places}
 use borrow.Author.Needs.{needs}
 use Rattle.frame.proofs.judge.group_call_fits.Statement.{statement}

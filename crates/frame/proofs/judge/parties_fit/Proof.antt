@@ -1,6 +1,6 @@
 -- `frame::judge::parties_fit` meets its contract: each field in its range. Assumes nothing.
 use Rattle.frame.specs.Digits.{numbersAt}
-use Rattle.frame.specs.Range.{partiesGood}
+use Rattle.frame.specs.Frame.{partiesGood}
 use borrow.Author.Needs.{needs}
 use Rattle.frame.proofs.judge.parties_fit.Statement.{statement}
 use Rattle.frame.proofs.judge.parties_fit.Tie as tie

@@ -1,6 +1,6 @@
 -- `frame::judge::setup_fits` meets its contract: each field in its range. Assumes nothing.
 use Rattle.frame.specs.Digits.{numbersAt}
-use Rattle.frame.specs.Range.{setupGood}
+use Rattle.frame.specs.Frame.{setupGood}
 use borrow.Author.Needs.{needs}
 use Rattle.frame.proofs.judge.setup_fits.Statement.{statement}
 use Rattle.frame.proofs.judge.setup_fits.Tie as tie

@@ -1,6 +1,6 @@
 -- `frame::range::in_range` meets its contract: what is known at each return gives the case. Assumes nothing.
 use borrow.Author.Needs.{needs}
-use Rattle.frame.specs.Range.{inRange}
+use Rattle.frame.specs.Frame.{inRange}
 use Rattle.frame.proofs.range.in_range.Statement.{statement}
 use Rattle.frame.proofs.range.in_range.Tie as tie
 

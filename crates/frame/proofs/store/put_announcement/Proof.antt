@@ -12,4 +12,4 @@ put-announcement-spec =
     (λ c κs. search needs)
     (λ c κs. search needs)
     (λ c. search needs)
-    (λ c. rw (c .before .before .put-group-back .ensures, c .before .before .before .before .before .before .put-four .ensures, c .before .before .before .before .before .before .before .before .before .before .put-group-front .ensures, ← sets-frame)))
+    (λ c. rw (c .before .before .put-group-back .ensures, c .before .before .before .before .before .before .put-media .ensures, c .before .before .before .before .before .before .before .before .before .before .put-group-front .ensures, ← sets-frame)))

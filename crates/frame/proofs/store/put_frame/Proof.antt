@@ -4,7 +4,7 @@ use Prim.Native.Nat.{_≤_}
 use native.Mathlib.Omega.{arith}
 use lib.ListN.{length}
 use Rattle.frame.specs.Digits.{allInHex}
-use Rattle.frame.specs.Range.{kindOf}
+use Rattle.frame.specs.Frame.{kindOf}
 use Rattle.frame.specs.Layout.{digitsOf}
 use Rattle.frame.specs.declared.Message.{Message}
 use Rattle.frame.proofs.Stores.{sets-cons, sets-none, sets-frame}
@@ -46,7 +46,7 @@ put-frame-spec =
     (λ c. search needs)
     (λ c. rw (c .before .before .put-parties .ensures, c .before .before .before .before .before .message2 .given .1, ← sets-frame))
     (λ c. search needs)
-    (λ c. rw (c .before .before .put-four .ensures, c .before .before .before .before .before .before .put-parties2 .ensures, c .before .before .before .before .before .before .before .before .before .message3 .given .1, ← sets-frame))
+    (λ c. rw (c .before .before .put-media .ensures, c .before .before .before .before .before .before .put-parties2 .ensures, c .before .before .before .before .before .before .before .before .before .message3 .given .1, ← sets-frame))
     (λ c. search needs)
     (λ c. rw (c .before .before .put-one .ensures, c .before .before .before .before .before .before .put-parties3 .ensures, c .before .before .before .before .before .before .before .before .before .message4 .given .1, ← sets-frame) (simp (sets-cons, sets-none)))
     (λ c. search needs)

@@ -14,4 +14,4 @@ put-setup-spec =
     (λ c κs. search needs)
     (λ c κs. search needs)
     (λ c. search needs)
-    (λ c. rw (c .before .before .put-four2 .ensures, c .before .before .before .before .before .before .put-four .ensures, c .before .before .before .before .before .before .before .before .before .before .put-one2 .ensures, c .before .before .before .before .before .before .before .before .before .before .before .before .before .before .put-one .ensures, c .before .before .before .before .before .before .before .before .before .before .before .before .before .before .before .before .before .before .put-parties .ensures, ← sets-frame) (simp (sets-cons, sets-none))))
+    (λ c. rw (c .before .before .put-four .ensures, c .before .before .before .before .before .before .put-media .ensures, c .before .before .before .before .before .before .before .before .before .before .put-one2 .ensures, c .before .before .before .before .before .before .before .before .before .before .before .before .before .before .put-one .ensures, c .before .before .before .before .before .before .before .before .before .before .before .before .before .before .before .before .before .before .put-parties .ensures, ← sets-frame) (simp (sets-cons, sets-none))))

@@ -1,0 +1,46 @@
+// Media: its range, its digits in a line and in a buffer; all that knows what media is made of.
+use crate::Media;
+use crate::digits::four_at;
+use crate::judge::four_fits;
+use crate::put::put_four;
+use crate::range::four_good;
+ghost use mathlib.Core.Path.{_≡_};
+ghost use Prim.Native.Nat.{_+_, _<_, _≤_};
+ghost use lib.ListN.{length};
+ghost use lib.Seq.{sets};
+ghost use Rattle.frame.specs.Media.{mediaGood, mediaHex, mediaFrom};
+ghost use Rattle.frame.specs.Line.{Digital};
+
+// Whether it is in its range.
+pub(crate) fn media_good(media: Media) -> bool
+    ensures { λ r. ⌜ r ≡ mediaGood media ⌝ }
+{
+    four_good(media.number)
+}
+
+// The media whose digits stand from place at on.
+pub(crate) fn media_from(line: &[u8], at: usize) -> Media
+    requires { ⌜ at + 8 ≤ length (now line) ⌝ }
+    ensures { λ r. ⌜ r ≡ mediaFrom (now (line .entry)) at ⌝ }
+{
+    Media {
+        number: four_at(line, at),
+    }
+}
+
+// Whether that media is in its range, judged on its digits.
+pub(crate) fn media_fits(line: &[u8], at: usize) -> bool
+    requires { ⌜ at + 8 < length (now line) ⌝ }
+    requires { ⌜ Digital (now line) ⌝ }
+    ensures { λ r. ⌜ r ≡ mediaGood (mediaFrom (now (line .entry)) at) ⌝ }
+{
+    four_fits(line, at)
+}
+
+// Its digits, from place at on.
+pub(crate) fn put_media(out: &mut [u8], at: usize, media: Media)
+    requires { ⌜ at + 8 ≤ length (now out) ⌝ }
+    ensures { λ _. ⌜ now (out .exit) ≡ sets (now (out .entry)) at (mediaHex media) ⌝ }
+{
+    put_four(out, at, media.number);
+}

@@ -17,7 +17,7 @@ use Rattle.frame.specs.Writing.{writeNumber}
 use Rattle.frame.specs.declared.Media.{Media}
 use Rattle.frame.specs.declared.Message.{Message}
 use Rattle.frame.proofs.Laws.{and-split}
-use Rattle.demands.specs.MarkedCases.{spoilt, writes, Holds, reading-holds, spoilt-holds, writing-holds, ringing, setup, table, AllHold}
+use Rattle.demands.specs.MarkedCases.{spoilt, writes, Holds, reading-holds, spoilt-holds, writing-holds, ringing, five, setup, table, AllHold}
 
 -- a test that is computed at each number below n, and what it shows of each
 below : ℕ → (ℕ → Bool) → Bool
@@ -48,6 +48,6 @@ by-length {m} {media} {room} h =
 
 -- every marked case holds
 pub marked-cases : AllHold table
-unfolding below AllHold table ringing setup readLine refusalOf messageAt mediaAt numbersAt numberAt digitsOf allDigits inRange partiesGood setupGood groupCallGood acceptanceGood writeNumber lineOf frameInHex allInHex inHex
+unfolding below AllHold table ringing five setup readLine refusalOf messageAt mediaAt numbersAt numberAt digitsOf allDigits inRange partiesGood setupGood groupCallGood acceptanceGood writeNumber lineOf frameInHex allInHex inHex
 marked-cases =
-    (reading-holds refl, (everywhere refl, (reading-holds refl, (reading-holds refl, (by-length refl, (by-length refl, (reading-holds refl, (reading-holds refl, tt))))))))
+    (reading-holds refl, (everywhere refl, (reading-holds refl, (reading-holds refl, (by-length refl, (by-length refl, (reading-holds refl, (by-length refl, (reading-holds refl, (by-length refl, tt))))))))))

@@ -8,8 +8,7 @@ use Rattle.frame.specs.declared.Media.{Media}
 use Rattle.frame.specs.declared.Message.{Message}
 use Rattle.frame.proofs.Laws.{within-split}
 use Rattle.frame.proofs.NineKinds.{nine}
-use Rattle.frame.proofs.Frames.{length-line}
-use Rattle.frame.proofs.ReadsItsLine.{known}
+use Rattle.frame.proofs.Frames.{known, length-line}
 use Rattle.demands.specs.Totals.{totals}
 
 -- two digits a byte
@@ -20,5 +19,5 @@ digits-total = nine (λ (k : ℕ). digitsOf k ≡ 2 * getD totals k 0) refl refl
 -- and the line end
 pub line-total : (m : Message) (media : Media) → length (lineOf m media) ≡ 2 * getD totals (kindOf m) 0 + 1
 line-total m media =
-    let k = within-split 1 (kindOf m) 9 (known m .1) in
+    let k = within-split 1 (kindOf m) 9 (known m .nine) in
     length-line m media ∙ ap (λ (n : ℕ). n + 1) (digits-total (kindOf m) (k .0) (k .1))

@@ -33,7 +33,11 @@ pub data Holds : Case → Type 0 where
 unfoldable pub ringing : Message
 ringing = Ringing (record { identifier = 0x1234; caller = 7; callee = 9 })
 
--- a setup request of that call, automatic, of type 4, with media 5 beside it
+-- media 5
+unfoldable pub five : Media
+five = record { number = 5 }
+
+-- a setup request of that call, automatic, of type 4, by its PCK-ID
 unfoldable pub setup : ℕ → Message
 setup k =
     SetupRequest (record { identifier = 0x1234; caller = 7; callee = 9 })
@@ -48,8 +52,10 @@ table =
     ∷ ("D", reads (bytes "0a12340000000700000009\n") (refusal 3))
     ∷ ("K", writes ringing noMedia 22 6)
     ∷ ("K", writes ringing noMedia 23 0)
-    ∷ ("L", reads (bytes "011234000000070000000900040000000530000000\n") (reading (setup 0x30000000) (record { number = 5 })))
+    ∷ ("L", reads (bytes "011234000000070000000900040000000530000000\n") (reading (setup 0x3000_0000) five))
+    ∷ ("L", writes (setup 0x3000_0000) five 43 0)
     ∷ ("L", reads (bytes "011234000000070000000900040000000540000000\n") (refusal 5))
+    ∷ ("L", writes (setup 0x4000_0000) five 43 5)
     ∷ []
 
 -- every case of a table holds

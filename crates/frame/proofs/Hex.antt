@@ -27,8 +27,8 @@ value-digit n h = go (ltb n 10) refl
     go false e = let k : 10 ≤ n = ltb-false _ _ e in simp (e, le-ltb (87 + n) 58 (omega arith)) (omega arith)
 
 -- what is written for a number is a digit
-digit-digit : (n : ℕ) → n < 16 → isDigit (digitOf n) ≡ true
-digit-digit n h = go (ltb n 10) refl
+digit-is-digit : (n : ℕ) → n < 16 → isDigit (digitOf n) ≡ true
+digit-is-digit n h = go (ltb n 10) refl
   where
     go : (b : Bool) → ltb n 10 ≡ b → isDigit (digitOf n) ≡ true
     go true e = let k : n < 10 = ltb-true _ _ e in simp (e, le-leb 48 (48 + n) (omega arith), le-leb (48 + n) 57 (omega arith))
@@ -64,8 +64,8 @@ size-pos one = lit≤ tt
 size-pos (twice w) = mul-pos (size-pos w) (size-pos w)
 
 -- a field that is never 0
-pub short : (w : Width) (v : ℕ) → neverZero w v ≡ true → v < size w
-short w v e =
+pub never-zero-lt : (w : Width) (v : ℕ) → neverZero w v ≡ true → v < size w
+never-zero-lt w v e =
     let p = within-split 1 v (largest w) e in
     let q = size-pos w in omega arith
 
@@ -85,48 +85,48 @@ length-hex (twice w) v =
     length-append (inHex w (v / size w)) (inHex w (v % size w)) ∙ ap₂ _+_ (length-hex w (v / size w)) (length-hex w (v % size w))
 
 -- digits behind digits
-pub allDigits-append : (s t : List ℕ) → allDigits s ≡ true → allDigits t ≡ true → allDigits (s ++ t) ≡ true
+pub digits-append : (s t : List ℕ) → allDigits s ≡ true → allDigits t ≡ true → allDigits (s ++ t) ≡ true
 unfolding allDigits
-allDigits-append [] t h k = k
-allDigits-append (x ∷ s) t h k = let p = and-split (isDigit x) (allDigits s) h in rw (p .0) (allDigits-append s t (p .1) k)
+digits-append [] t h k = k
+digits-append (x ∷ s) t h k = let p = and-split (isDigit x) (allDigits s) h in rw (p .0) (digits-append s t (p .1) k)
 
 -- a number is written in digits
-pub hex-hex : (w : Width) (v : ℕ) → v < size w → allDigits (inHex w v) ≡ true
+pub hex-is-digits : (w : Width) (v : ℕ) → v < size w → allDigits (inHex w v) ≡ true
 unfolding inHex allDigits
-hex-hex one v h = simp (digit-digit (v / 16) (omega arith), digit-digit (v % 16) (omega arith))
-hex-hex (twice w) v h =
-    allDigits-append (inHex w (v / size w)) (inHex w (v % size w)) (hex-hex w (v / size w) (high w v h)) (hex-hex w (v % size w) (low w v))
+hex-is-digits one v h = simp (digit-is-digit (v / 16) (omega arith), digit-is-digit (v % 16) (omega arith))
+hex-is-digits (twice w) v h =
+    digits-append (inHex w (v / size w)) (inHex w (v % size w)) (hex-is-digits w (v / size w) (high w v h)) (hex-is-digits w (v % size w) (low w v))
 
 -- written and read again
-pub num-hex : (w : Width) (v : ℕ) (p r : List ℕ) (at : ℕ) → length p ≡ at → v < size w → numberAt w (p ++ (inHex w v ++ r)) at ≡ v
+pub number-of-hex : (w : Width) (v : ℕ) (p r : List ℕ) (at : ℕ) → length p ≡ at → v < size w → numberAt w (p ++ (inHex w v ++ r)) at ≡ v
 unfolding inHex numberAt
-num-hex one v p r at e h =
+number-of-hex one v p r at e h =
     let t = digitOf (v / 16) ∷ digitOf (v % 16) ∷ r in
     let e₁ : getD (p ++ t) at 0 ≡ digitOf (v / 16) = getD-at p _ _ 0 at e in
     let e₂ : getD (p ++ t) (at + 1) 0 ≡ digitOf (v % 16) = ap (λ (n : ℕ). getD (p ++ t) (n + 1) 0) (sym e) ∙ getD-append-add p t 1 0 in
     ap₂ (λ (x y : ℕ). x * 16 + y) (ap valueOf e₁ ∙ value-digit (v / 16) (omega arith)) (ap valueOf e₂ ∙ value-digit (v % 16) (omega arith))
     ∙ div-add-mod' v 16
-num-hex (twice w) v p r at e h =
+number-of-hex (twice w) v p r at e h =
     let a = inHex w (v / size w) in
     let b = inHex w (v % size w) in
     let e₁ : p ++ ((a ++ b) ++ r) ≡ p ++ (a ++ (b ++ r)) = ap (λ (l : List ℕ). p ++ l) (append-assoc a b r) in
     let e₂ : p ++ (a ++ (b ++ r)) ≡ (p ++ a) ++ (b ++ r) = sym (append-assoc p a (b ++ r)) in
     let n : length (p ++ a) ≡ at + digitCount w = length-append p a ∙ ap₂ _+_ e (length-hex w (v / size w)) in
     ap₂ (λ (x y : ℕ). x * size w + y)
-    (ap (λ (l : List ℕ). numberAt w l at) e₁ ∙ num-hex w (v / size w) p (b ++ r) at e (high w v h))
-    (ap (λ (l : List ℕ). numberAt w l (at + digitCount w)) (e₁ ∙ e₂) ∙ num-hex w (v % size w) (p ++ a) r (at + digitCount w) n (low w v))
+    (ap (λ (l : List ℕ). numberAt w l at) e₁ ∙ number-of-hex w (v / size w) p (b ++ r) at e (high w v h))
+    (ap (λ (l : List ℕ). numberAt w l (at + digitCount w)) (e₁ ∙ e₂) ∙ number-of-hex w (v % size w) (p ++ a) r (at + digitCount w) n (low w v))
     ∙ div-add-mod' v (size w)
 
 -- a number that is read is one of its width
-pub num-lt : (w : Width) (l : List ℕ) (at : ℕ) → numberAt w l at < size w
+pub number-lt : (w : Width) (l : List ℕ) (at : ℕ) → numberAt w l at < size w
 unfolding numberAt
-num-lt one l at = digits-lt (value-lt (getD l at 0)) (value-lt (getD l (at + 1) 0))
-num-lt (twice w) l at = digits-lt (num-lt w l at) (num-lt w l (at + digitCount w))
+number-lt one l at = digits-lt (value-lt (getD l at 0)) (value-lt (getD l (at + 1) 0))
+number-lt (twice w) l at = digits-lt (number-lt w l at) (number-lt w l (at + digitCount w))
 
 -- read and written again, where the digits are digits
-pub hex-num : (w : Width) (l : List ℕ) (n at : ℕ) → ((i : ℕ) → i < n → isDigit (getD l i 0) ≡ true) → n ≤ length l → at + digitCount w ≤ n → inHex w (numberAt w l at) ≡ take (digitCount w) (drop at l)
+pub hex-of-number : (w : Width) (l : List ℕ) (n at : ℕ) → ((i : ℕ) → i < n → isDigit (getD l i 0) ≡ true) → n ≤ length l → at + digitCount w ≤ n → inHex w (numberAt w l at) ≡ take (digitCount w) (drop at l)
 unfolding inHex numberAt
-hex-num one l n at h k f =
+hex-of-number one l n at h k f =
     let x = getD l at 0 in
     let y = getD l (at + 1) 0 in
     let e : drop at l ≡ x ∷ (y ∷ drop (suc (at + 1)) l) =
@@ -134,12 +134,12 @@ hex-num one l n at h k f =
     ap₂ (λ (a b : ℕ). digitOf a ∷ digitOf b ∷ []) (digits-div (valueOf x) (value-lt y)) (digits-mod (valueOf x) (value-lt y))
     ∙ ap₂ (λ (a b : ℕ). a ∷ b ∷ []) (digit-value x (h at (omega arith))) (digit-value y (h (at + 1) (omega arith)))
     ∙ sym (ap (take 2) e)
-hex-num (twice w) l n at h k f =
+hex-of-number (twice w) l n at h k f =
     let a = numberAt w l at in
     let b = numberAt w l (at + digitCount w) in
-    let lt : b < size w = num-lt w l (at + digitCount w) in
+    let lt : b < size w = number-lt w l (at + digitCount w) in
     ap₂ (λ (x y : ℕ). inHex w x ++ inHex w y) (digits-div a lt) (digits-mod a lt)
-    ∙ ap₂ _++_ (hex-num w l n at h k (omega arith)) (hex-num w l n (at + digitCount w) h k (omega arith) ∙ ap (take (digitCount w)) (sym (drop-drop (digitCount w) at l)))
+    ∙ ap₂ _++_ (hex-of-number w l n at h k (omega arith)) (hex-of-number w l n (at + digitCount w) h k (omega arith) ∙ ap (take (digitCount w)) (sym (drop-drop (digitCount w) at l)))
     ∙ sym (take-add (digitCount w) (digitCount w) (drop at l))
 
 -- a place, and the places behind it
@@ -156,43 +156,43 @@ Fit (w ∷ ws) [] = ⊥
 Fit (w ∷ ws) (v ∷ vs) = (v < size w) × Fit ws vs
 
 -- numbers one after the other have the digits of their widths
-pub length-all : (ws : List Width) (vs : List ℕ) → length ws ≡ length vs → length (allInHex ws vs) ≡ total ws
+pub length-all-hex : (ws : List Width) (vs : List ℕ) → length ws ≡ length vs → length (allInHex ws vs) ≡ total ws
 unfolding allInHex
-length-all [] vs e = refl
-length-all (w ∷ ws) [] e = let z : ⊥ = omega arith in absurd z
-length-all (w ∷ ws) (v ∷ vs) e =
-    length-append (inHex w v) (allInHex ws vs) ∙ ap₂ _+_ (length-hex w v) (length-all ws vs (omega arith))
+length-all-hex [] vs e = refl
+length-all-hex (w ∷ ws) [] e = let z : ⊥ = omega arith in absurd z
+length-all-hex (w ∷ ws) (v ∷ vs) e =
+    length-append (inHex w v) (allInHex ws vs) ∙ ap₂ _+_ (length-hex w v) (length-all-hex ws vs (omega arith))
 
 -- they are written in digits
-pub all-hex : (ws : List Width) (vs : List ℕ) → Fit ws vs → allDigits (allInHex ws vs) ≡ true
+pub all-hex-is-digits : (ws : List Width) (vs : List ℕ) → Fit ws vs → allDigits (allInHex ws vs) ≡ true
 unfolding allInHex allDigits
-all-hex [] [] f = refl
-all-hex [] (v ∷ vs) f = absurd f
-all-hex (w ∷ ws) [] f = absurd f
-all-hex (w ∷ ws) (v ∷ vs) f = allDigits-append (inHex w v) (allInHex ws vs) (hex-hex w v (f .0)) (all-hex ws vs (f .1))
+all-hex-is-digits [] [] f = refl
+all-hex-is-digits [] (v ∷ vs) f = absurd f
+all-hex-is-digits (w ∷ ws) [] f = absurd f
+all-hex-is-digits (w ∷ ws) (v ∷ vs) f = digits-append (inHex w v) (allInHex ws vs) (hex-is-digits w v (f .0)) (all-hex-is-digits ws vs (f .1))
 
 -- written and read again
-pub nums-hex : (ws : List Width) (vs p r : List ℕ) (at : ℕ) → length p ≡ at → Fit ws vs → numbersAt ws (p ++ (allInHex ws vs ++ r)) at ≡ vs
+pub numbers-of-hex : (ws : List Width) (vs p r : List ℕ) (at : ℕ) → length p ≡ at → Fit ws vs → numbersAt ws (p ++ (allInHex ws vs ++ r)) at ≡ vs
 unfolding allInHex numbersAt
-nums-hex [] [] p r at e f = refl
-nums-hex [] (v ∷ vs) p r at e f = absurd f
-nums-hex (w ∷ ws) [] p r at e f = absurd f
-nums-hex (w ∷ ws) (v ∷ vs) p r at e f =
+numbers-of-hex [] [] p r at e f = refl
+numbers-of-hex [] (v ∷ vs) p r at e f = absurd f
+numbers-of-hex (w ∷ ws) [] p r at e f = absurd f
+numbers-of-hex (w ∷ ws) (v ∷ vs) p r at e f =
     let h = inHex w v in
     let t = allInHex ws vs ++ r in
     let e₁ : p ++ ((h ++ allInHex ws vs) ++ r) ≡ p ++ (h ++ t) = ap (λ (l : List ℕ). p ++ l) (append-assoc h (allInHex ws vs) r) in
     let e₂ : p ++ (h ++ t) ≡ (p ++ h) ++ t = sym (append-assoc p h t) in
     ap₂ (λ (x : ℕ) (xs : List ℕ). x ∷ xs)
-    (ap (λ (l : List ℕ). numberAt w l at) e₁ ∙ num-hex w v p t at e (f .0))
+    (ap (λ (l : List ℕ). numberAt w l at) e₁ ∙ number-of-hex w v p t at e (f .0))
     (ap (λ (l : List ℕ). numbersAt ws l (at + digitCount w)) (e₁ ∙ e₂)
-    ∙ nums-hex ws vs (p ++ h) r (at + digitCount w) (length-append p h ∙ ap₂ _+_ e (length-hex w v)) (f .1))
+    ∙ numbers-of-hex ws vs (p ++ h) r (at + digitCount w) (length-append p h ∙ ap₂ _+_ e (length-hex w v)) (f .1))
 
 -- read and written again
-pub hex-nums : (ws : List Width) (l : List ℕ) (n at : ℕ) → ((i : ℕ) → i < n → isDigit (getD l i 0) ≡ true) → n ≤ length l → at + total ws ≤ n
+pub hex-of-numbers : (ws : List Width) (l : List ℕ) (n at : ℕ) → ((i : ℕ) → i < n → isDigit (getD l i 0) ≡ true) → n ≤ length l → at + total ws ≤ n
     → allInHex ws (numbersAt ws l at) ≡ take (total ws) (drop at l)
 unfolding allInHex numbersAt
-hex-nums [] l n at h k f = refl
-hex-nums (w ∷ ws) l n at h k f =
-    ap₂ _++_ (hex-num w l n at h k (omega arith))
-    (hex-nums ws l n (at + digitCount w) h k (omega arith) ∙ ap (take (total ws)) (sym (drop-drop (digitCount w) at l)))
+hex-of-numbers [] l n at h k f = refl
+hex-of-numbers (w ∷ ws) l n at h k f =
+    ap₂ _++_ (hex-of-number w l n at h k (omega arith))
+    (hex-of-numbers ws l n (at + digitCount w) h k (omega arith) ∙ ap (take (total ws)) (sym (drop-drop (digitCount w) at l)))
     ∙ sym (take-add (digitCount w) (total ws) (drop at l))

@@ -12,7 +12,7 @@ use borrow.Author.Tests.{lt-ltb, le-ltb, le-leb, leb-true, leb-false, eqb-true, 
 use Rattle.frame.specs.Digits.{isDigit, valueOf, allDigits, numberAt, Width, one, twice, digitCount, size, largest}
 use Rattle.frame.specs.Range.{neverZero}
 use Rattle.frame.proofs.Laws.{and-split, or-cases, within-split}
-use Rattle.frame.proofs.Hex.{size-pos, num-lt}
+use Rattle.frame.proofs.Hex.{size-pos, number-lt}
 
 -- each of the first n bytes is a digit where all of them are
 pub digit-in : (l : List ℕ) (n i : ℕ) → allDigits (take n l) ≡ true → i < n → n ≤ length l → isDigit (getD l i 0) ≡ true
@@ -81,13 +81,13 @@ unfolding numberAt
 never-zero-one l at h k =
     ap₂ _||_ (digit-some (getD l at 0) h) (digit-some (getD l (at + 1) 0) k)
     ∙ sum-some 16 (valueOf (getD l at 0)) (valueOf (getD l (at + 1) 0)) (lit≤ tt)
-    ∙ sym (some one (numberAt one l at) (num-lt one l at))
+    ∙ sym (some one (numberAt one l at) (number-lt one l at))
 
 -- the two halves of a number of twice the width
 pub never-zero-twice : (w : Width) (l : List ℕ) (at : ℕ)
     → (neverZero w (numberAt w l at) || neverZero w (numberAt w l (at + digitCount w))) ≡ neverZero (twice w) (numberAt (twice w) l at)
 unfolding numberAt
 never-zero-twice w l at =
-    ap₂ _||_ (some w _ (num-lt w l at)) (some w _ (num-lt w l (at + digitCount w)))
+    ap₂ _||_ (some w _ (number-lt w l at)) (some w _ (number-lt w l (at + digitCount w)))
     ∙ sum-some (size w) (numberAt w l at) (numberAt w l (at + digitCount w)) (size-pos w)
-    ∙ sym (some (twice w) (numberAt (twice w) l at) (num-lt (twice w) l at))
+    ∙ sym (some (twice w) (numberAt (twice w) l at) (number-lt (twice w) l at))

@@ -18,8 +18,8 @@ use Rattle.frame.specs.declared.Media.{Media}
 use Rattle.frame.specs.declared.Message.{Message}
 use Rattle.frame.specs.declared.Read.the-variants.{Readable, Refused}
 use Rattle.frame.specs.declared.Reading.{Reading}
-use Rattle.frame.proofs.Hex.{hex-nums}
-use Rattle.frame.proofs.MediaDigits.{media-hex-from}
+use Rattle.frame.proofs.Hex.{hex-of-numbers}
+use Rattle.frame.proofs.MediaDigits.{hex-of-media}
 use Rattle.frame.proofs.Judged.{digit-in}
 use Rattle.frame.proofs.Accepted.{Accepted, accepted}
 use Rattle.frame.proofs.NineKinds.{nine}
@@ -53,7 +53,7 @@ module _ (l : List ℕ) (a : Accepted l) where
   unfolding Made digitsOf numbersAt
   front-again =
       ap₂ (λ (x : ℕ) (xs : List ℕ). allInHex (front k) (x ∷ xs)) (is-made .0) (is-made .1)
-      ∙ hex-nums (front k) l (count l) 0 bytes (omega arith) (omega arith)
+      ∙ hex-of-numbers (front k) l (count l) 0 bytes (omega arith) (omega arith)
 
   -- so are those of the media
   media-again : mediaInHex k (mediaAt k l) ≡ take (mediaCount k) (drop (mediaPlace k) l)
@@ -62,14 +62,14 @@ module _ (l : List ℕ) (a : Accepted l) where
     where
       go : (b : Bool) → mediaPlace k + cond b mediaDigits 0 ≤ count l
           → cond b (mediaHex (cond b (mediaFrom l (mediaPlace k)) noMedia)) [] ≡ take (cond b mediaDigits 0) (drop (mediaPlace k) l)
-      go true h = media-hex-from l (count l) (mediaPlace k) bytes (omega arith) h
+      go true h = hex-of-media l (count l) (mediaPlace k) bytes (omega arith) h
       go false h = refl
 
   -- and those after it
   back-again : allInHex (back k) (backOf (messageAt k l)) ≡ take (total (back k)) (drop (backPlace k) l)
   unfolding Made digitsOf
   back-again =
-      ap (allInHex (back k)) (is-made .2) ∙ hex-nums (back k) l (count l) (backPlace k) bytes (omega arith) (let e = a .long in omega arith)
+      ap (allInHex (back k)) (is-made .2) ∙ hex-of-numbers (back k) l (count l) (backPlace k) bytes (omega arith) (let e = a .long in omega arith)
 
   -- so all digits are
   digits-again : frameInHex (messageAt k l) (mediaAt k l) ≡ take (count l) l

@@ -6,34 +6,18 @@ use Prim.Native.Nat.{ℕ, _≤_}
 use native.Mathlib.Omega.{arith}
 use lib.ListN.{length, take, getD, length-append}
 use lib.Seq.{getD-at, take-at}
-use lib.Dec.{lit≤}
 use borrow.Author.Tests.{le-ltb, eq-eqb, ne-eqb}
 use Rattle.frame.specs.Digits.{allDigits, numbersAt, allInHex}
-use Rattle.frame.specs.Range.{within}
 use Rattle.frame.specs.Media.{mediaGood, noMedia, mediaHex, mediaFrom}
 use Rattle.frame.specs.Frame.{kindOf, carries, mediaOf, messageGood, inRange, GoodFrame}
 use Rattle.frame.specs.Layout.{front, back, mediaPlace, backPlace, digitsOf, frontOf, backOf, mediaInHex, frameInHex, lineOf}
 use Rattle.frame.specs.Line.{messageOf, messageAt, mediaAt, count, kindAt, refusalOf, reading, readLine}
 use Rattle.frame.specs.declared.Media.{Media}
 use Rattle.frame.specs.declared.Message.{Message}
-use Rattle.frame.specs.declared.Message.the-variants.{SetupRequest, Ringing, Accept, Reject, Release, ReleaseAck, AcceptAck, Announcement, GroupAccept}
 use Rattle.frame.proofs.Laws.{and-split}
-use Rattle.frame.proofs.Hex.{allDigits-append, all-hex, nums-hex}
-use Rattle.frame.proofs.MediaDigits.{media-hex, media-from-hex}
-use Rattle.frame.proofs.Frames.{fit, length-front, length-media, length-frame, length-line}
-
--- a frame is made again of its fields, and its kind is one of the nine, with two digits at least
-pub known : (m : Message) → (messageOf (kindOf m) (frontOf m) (backOf m) ≡ m) × (within 1 (kindOf m) 9 ≡ true) × (2 ≤ digitsOf (kindOf m))
-unfolding digitsOf
-known (SetupRequest p s) = (refl, refl, lit≤ tt)
-known (Ringing p) = (refl, refl, lit≤ tt)
-known (Accept p) = (refl, refl, lit≤ tt)
-known (Reject p reason) = (refl, refl, lit≤ tt)
-known (Release p) = (refl, refl, lit≤ tt)
-known (ReleaseAck p) = (refl, refl, lit≤ tt)
-known (AcceptAck p) = (refl, refl, lit≤ tt)
-known (Announcement c confirm) = (refl, refl, lit≤ tt)
-known (GroupAccept a) = (refl, refl, lit≤ tt)
+use Rattle.frame.proofs.Hex.{digits-append, all-hex-is-digits, numbers-of-hex}
+use Rattle.frame.proofs.MediaDigits.{media-is-digits, media-of-hex}
+use Rattle.frame.proofs.Frames.{known, fit, length-front, length-media, length-frame, length-line}
 
 module _ (m : Message) (media : Media) (g : inRange m media ≡ true) where
   -- the kind of the frame
@@ -66,7 +50,7 @@ module _ (m : Message) (media : Media) (g : inRange m media ≡ true) where
   front-read : numbersAt (front kind) (lineOf m media) 0 ≡ frontOf m
   front-read =
       ap (λ (l : List ℕ). numbersAt (front kind) l 0) parts
-      ∙ nums-hex (front kind) (frontOf m) [] (mediaInHex kind media ++ behind) 0 refl (fit m (good .1) .0)
+      ∙ numbers-of-hex (front kind) (frontOf m) [] (mediaInHex kind media ++ behind) 0 refl (fit m (good .1) .0)
 
   -- so does the kind
   kind-read : kindAt (lineOf m media) ≡ kind
@@ -81,12 +65,12 @@ module _ (m : Message) (media : Media) (g : inRange m media ≡ true) where
       let e₁ = length-media kind media in
       let e₂ = length-append ahead h in
       ap (λ (l : List ℕ). numbersAt (back kind) l (backPlace kind)) (parts ∙ sym (append-assoc ahead h behind))
-      ∙ nums-hex (back kind) (backOf m) (ahead ++ h) (10 ∷ []) (backPlace kind) (omega arith) (fit m (good .1) .1)
+      ∙ numbers-of-hex (back kind) (backOf m) (ahead ++ h) (10 ∷ []) (backPlace kind) (omega arith) (fit m (good .1) .1)
 
   -- so the message reads as it was
   message-read : messageAt kind (lineOf m media) ≡ m
   unfolding messageAt
-  message-read = ap₂ (messageOf kind) front-read back-read ∙ known m .0
+  message-read = ap₂ (messageOf kind) front-read back-read ∙ known m .again
 
   -- and so does the media, where it is carried
   media-read : mediaAt kind (lineOf m media) ≡ mediaOf kind media
@@ -95,7 +79,7 @@ module _ (m : Message) (media : Media) (g : inRange m media ≡ true) where
     where
       go : (b : Bool) → carries kind ≡ b
           → _≡_ {A = Media} (cond b (mediaFrom (ahead ++ (cond b (mediaHex media) [] ++ behind)) (mediaPlace kind)) noMedia) (cond b media noMedia)
-      go true e = media-from-hex media ahead behind (mediaPlace kind) (length-front m) (carried e)
+      go true e = media-of-hex media ahead behind (mediaPlace kind) (length-front m) (carried e)
       go false e = refl
 
   -- the digits are those of the kind
@@ -108,7 +92,7 @@ module _ (m : Message) (media : Media) (g : inRange m media ≡ true) where
   media-digits = go (carries kind) refl
     where
       go : (b : Bool) → carries kind ≡ b → allDigits (cond b (mediaHex media) []) ≡ true
-      go true e = media-hex media (carried e)
+      go true e = media-is-digits media (carried e)
       go false e = refl
 
   -- so is all that stands before the line end
@@ -116,8 +100,8 @@ module _ (m : Message) (media : Media) (g : inRange m media ≡ true) where
   unfolding lineOf frameInHex
   digital =
       ap allDigits (take-at (frameInHex m media) (10 ∷ []) (count (lineOf m media)) (length-frame m media ∙ sym count-read))
-      ∙ allDigits-append ahead (mediaInHex kind media ++ allInHex (back kind) (backOf m)) (all-hex (front kind) (frontOf m) (fit m (good .1) .0))
-      (allDigits-append (mediaInHex kind media) (allInHex (back kind) (backOf m)) media-digits (all-hex (back kind) (backOf m) (fit m (good .1) .1)))
+      ∙ digits-append ahead (mediaInHex kind media ++ allInHex (back kind) (backOf m)) (all-hex-is-digits (front kind) (frontOf m) (fit m (good .1) .0))
+      (digits-append (mediaInHex kind media) (allInHex (back kind) (backOf m)) media-digits (all-hex-is-digits (back kind) (backOf m) (fit m (good .1) .1)))
 
   -- the line ends in 0A
   ends : getD (lineOf m media) (count (lineOf m media)) 0 ≡ 10
@@ -138,8 +122,8 @@ module _ (m : Message) (media : Media) (g : inRange m media ≡ true) where
   unfolding refusalOf
   accepts =
       let n : length (lineOf m media) ≡ 0 → ⊥ = let e = length-line m media in omega arith in
-      let two : 2 ≤ count (lineOf m media) = rw count-read (known m .2) in
-      simp (ne-eqb _ _ n, eq-eqb _ _ ends, digital, le-ltb _ _ two, kind-read, known m .1, eq-eqb _ _ count-read, message-read, media-read, ranged-read)
+      let two : 2 ≤ count (lineOf m media) = rw count-read (known m .pair) in
+      simp (ne-eqb _ _ n, eq-eqb _ _ ends, digital, le-ltb _ _ two, kind-read, known m .nine, eq-eqb _ _ count-read, message-read, media-read, ranged-read)
 
 -- the line of a good frame reads as that frame
 pub reads-its-line : (m : Message) (media : Media) → GoodFrame m media → readLine (lineOf m media) ≡ reading m media

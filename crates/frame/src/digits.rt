@@ -5,10 +5,10 @@ ghost use lib.ListN.{length, take};
 ghost use Rattle.frame.specs.Digits.{isDigit, valueOf, allDigits, numberAt, one, two, four};
 
 // Whether a byte is one of the digits 0 to 9 and a to f.
-pub(crate) fn is_digit(x: u8) -> bool
+fn is_digit(x: u8) -> bool
     ensures { λ r. ⌜ r ≡ isDigit x ⌝ }
 {
-    ((48 <= x) & (x <= 57)) | ((97 <= x) & (x <= 102))
+    ((b'0' <= x) & (x <= b'9')) | ((b'a' <= x) & (x <= b'f'))
 }
 
 // Whether each of the first count bytes is a digit.
@@ -27,10 +27,10 @@ pub(crate) fn all_digits(line: &[u8], count: usize) -> bool
 }
 
 // What a digit stands for.
-pub(crate) fn value_of(x: u8) -> u8
+fn value_of(x: u8) -> u8
     ensures { λ r. ⌜ (r ≡ valueOf x) × (r < 16) ⌝ }
 {
-    if x < 58 {
+    if x <= b'9' {
         return x % 16;
     }
     (x % 16 + 9) % 16

@@ -22,7 +22,7 @@ fn one_fits(line: &[u8], at: usize) -> bool
     requires { ⌜ Digital (now line) ⌝ }
     ensures { λ r. ⌜ r ≡ neverZero one (numberAt one (now (line .entry)) at) ⌝ }
 {
-    (line[at] != 48) | (line[at + 1] != 48)
+    (line[at] != b'0') | (line[at + 1] != b'0')
 }
 
 // The same of a number of two bytes.

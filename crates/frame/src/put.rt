@@ -11,9 +11,9 @@ fn digit_of(v: u8) -> u8
     ensures { λ r. ⌜ r ≡ digitOf v ⌝ }
 {
     if v < 10 {
-        return 48 + v;
+        return b'0' + v;
     }
-    87 + v
+    b'a' - 10 + v
 }
 
 // The digits of a number of one byte, from place at on.

@@ -1,5 +1,5 @@
--- `frame::put::digit_of` meets its contract: what is known at each return gives the case. Assumes nothing.
-use borrow.Author.Tests.{le-ltb, lt-ltb}
+-- `frame::put::digit_of` meets its contract: a case of its test. Assumes nothing.
+use borrow.Author.Tests.{lt-ltb, le-ltb}
 use borrow.Author.Needs.{needs}
 use Rattle.frame.proofs.put.digit_of.Statement.{statement}
 use Rattle.frame.proofs.put.digit_of.Tie as tie
@@ -9,6 +9,7 @@ digit-of-spec =
     tie.close
     (tie.spec
     (λ c. search needs)
-    (λ c. rw (lt-ltb _ _ (c .if1 .taken)))
+    (λ c. simp (lt-ltb _ _ (c .if1 .taken)))
     (λ c. search needs)
-    (λ c. rw (le-ltb _ _ (c .if1 .left))))
+    (λ c. search needs)
+    (λ c. simp (le-ltb _ _ (c .if1 .left))))

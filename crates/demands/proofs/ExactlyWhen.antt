@@ -18,7 +18,8 @@ use Rattle.frame.specs.Writing.{writeNumber}
 use Rattle.frame.specs.declared.Media.{Media}
 use Rattle.frame.specs.declared.Message.{Message}
 use Rattle.frame.proofs.Judged.{not-all}
-use Rattle.demands.specs.ExactlyWhen.{ExactlyWhen, IsDigit, Unended, Undigital, Unkind, Misfit, Unranged, lineTable, writeTable}
+use Rattle.log.specs.Answer.{answerOf, answerNumber}
+use Rattle.demands.specs.ExactlyWhen.{ExactlyWhen, IsDigit, Unended, Undigital, Unkind, Misfit, Unranged, lineTable, writeTable, answerTable}
 use Rattle.demands.specs.Totals.{totals}
 use Rattle.demands.proofs.Totals.{digits-total}
 use Rattle.demands.proofs.Reflects.{Reflects, true-reflects, leb-reflects, ltb-reflects, eqb-reflects, not-reflects, and-reflects, or-reflects}
@@ -135,3 +136,14 @@ write-exactly-when m media out = table-exactly rows refl right
 
     right : Right (Unit {0}) rows
     right = (λ b. false-reflects (inRange m media), (λ b. ltb-reflects (length out) (length (lineOf m media)), tt))
+
+-- the answer to a log: 6
+pub answer-exactly-when : (log out : List ℕ) → ExactlyWhen (answerNumber log out) (Unit {0}) (answerTable log out)
+unfolding answerNumber
+answer-exactly-when log out = table-exactly rows refl right
+  where
+    rows : List Row
+    rows = (6, ltb (length out) (length (answerOf log)), length out < length (answerOf log)) ∷ []
+
+    right : Right (Unit {0}) rows
+    right = (λ b. ltb-reflects (length out) (length (answerOf log)), tt)

@@ -1,15 +1,25 @@
--- A refusal changes nothing. Assumes nothing.
-use mathlib.Core.Path.{_≡_}
+-- A refusal changes nothing, for every public function that writes into a lent buffer. Assumes nothing.
 use mathlib.Core.List.{List}
 use Prim.Native.Nat.{ℕ}
 use borrow.Author.Tests.{eq-eqb, ne-eqb}
-use Rattle.frame.specs.Writing.{writtenOf, bufferOf}
+use Rattle.frame.specs.Layout.{lineOf}
+use Rattle.frame.specs.Lent.{told, lentAfter}
+use Rattle.frame.specs.Writing.{writeNumber, writtenOf, bufferOf}
 use Rattle.frame.specs.declared.Media.{Media}
 use Rattle.frame.specs.declared.Message.{Message}
-use Rattle.demands.specs.NothingChanges.{WriteKept, WriteDone}
+use Rattle.log.specs.Answer.{answerOf, answerNumber, answeredOf, answerBuffer}
+use Rattle.demands.specs.NothingChanges.{NothingChanges}
 
--- the writer: a number that is not 0 leaves the buffer as it was, and 0 writes the line and nothing else
-pub write-nothing-changes : (m : Message) (media : Media) (out : List ℕ)
-    → (((writtenOf m media out .number ≡ 0) → ⊥) → WriteKept m media out) × (writtenOf m media out .number ≡ 0 → WriteDone m media out)
+-- whatever the number and the text are
+lent-nothing-changes : (n : ℕ) (text lent : List ℕ) → NothingChanges text (told n text) lent (lentAfter n text lent)
+lent-nothing-changes n text lent = (λ f. (rw (ne-eqb _ _ f), rw (ne-eqb _ _ f)), λ e. (rw (eq-eqb _ _ e), rw (eq-eqb _ _ e)))
+
+-- the writer of a line
+pub write-nothing-changes : (m : Message) (media : Media) (out : List ℕ) → NothingChanges (lineOf m media) (writtenOf m media out) out (bufferOf m media out)
 unfolding writtenOf bufferOf
-write-nothing-changes m media out = (λ f. (rw (ne-eqb _ _ f), rw (ne-eqb _ _ f)), λ e. (rw (eq-eqb _ _ e), rw (eq-eqb _ _ e)))
+write-nothing-changes m media out = lent-nothing-changes (writeNumber m media out) (lineOf m media) out
+
+-- the answer to a log
+pub answer-nothing-changes : (log out : List ℕ) → NothingChanges (answerOf log) (answeredOf log out) out (answerBuffer log out)
+unfolding answeredOf answerBuffer
+answer-nothing-changes log out = lent-nothing-changes (answerNumber log out) (answerOf log) out

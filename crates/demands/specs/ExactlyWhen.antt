@@ -10,6 +10,7 @@ use Rattle.frame.specs.Layout.{lineOf}
 use Rattle.frame.specs.Line.{messageAt, mediaAt, kindAt}
 use Rattle.frame.specs.declared.Media.{Media}
 use Rattle.frame.specs.declared.Message.{Message}
+use Rattle.log.specs.Answer.{answerOf}
 use Rattle.demands.specs.Totals.{totals}
 
 -- ---- what it is for a number to be given exactly when
@@ -55,3 +56,9 @@ lineTable l = (1, Unended l) ∷ (2, Undigital l) ∷ (3, Unkind l) ∷ (4, Misf
 -- the writer's table
 abbrev pub writeTable : Message → Media → List ℕ → List (ℕ × Type 0)
 writeTable m media out = (5, inRange m media ≡ false) ∷ (6, length out < length (lineOf m media)) ∷ []
+
+-- ---- a log to answer: 6, the buffer has no room for the answer
+
+-- its table
+abbrev pub answerTable : List ℕ → List ℕ → List (ℕ × Type 0)
+answerTable log out = (6, length out < length (answerOf log)) ∷ []

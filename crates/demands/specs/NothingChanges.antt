@@ -1,19 +1,19 @@
 -- A refusal changes nothing, and what is not refused changes only what it says. Assumes nothing.
 use mathlib.Core.Path.{_≡_}
-use mathlib.Core.List.{List, _++_}
+use mathlib.Core.List.{List}
 use Prim.Native.Nat.{ℕ}
-use lib.ListN.{length, drop}
-use Rattle.frame.specs.Layout.{lineOf}
-use Rattle.frame.specs.Writing.{writtenOf, bufferOf}
-use Rattle.frame.specs.declared.Media.{Media}
-use Rattle.frame.specs.declared.Message.{Message}
+use lib.ListN.{length}
+use Rattle.frame.specs.Lent.{atFront}
+use Rattle.frame.specs.declared.Written.{Written}
 
--- the writer refused: it tells length 0, and every byte of the buffer is what it was
-abbrev pub WriteKept : Message → Media → List ℕ → Type 0
-WriteKept m media out = (writtenOf m media out .length ≡ 0) × (bufferOf m media out ≡ out)
+-- a number was told: then length 0 is told too, and every byte of the buffer is what it was
+abbrev pub Kept : Written → List ℕ → List ℕ → Type 0
+Kept told lent after = (told .length ≡ 0) × (after ≡ lent)
 
--- the writer wrote: the line, and behind it the bytes that stood there
-abbrev pub WriteDone : Message → Media → List ℕ → Type 0
-WriteDone m media out =
-    (writtenOf m media out .length ≡ length (lineOf m media))
-    × (bufferOf m media out ≡ lineOf m media ++ drop (length (lineOf m media)) out)
+-- no number was told: then the text's length is, and the text stands at the front with the bytes behind it as they were
+abbrev pub Done : List ℕ → Written → List ℕ → List ℕ → Type 0
+Done text told lent after = (told .length ≡ length text) × (after ≡ atFront text lent)
+
+-- writing a text into a lent buffer: a number that is not 0 changes nothing, and 0 writes the text and nothing else
+abbrev pub NothingChanges : List ℕ → Written → List ℕ → List ℕ → Type 0
+NothingChanges text told lent after = (((told .number ≡ 0) → ⊥) → Kept told lent after) × (told .number ≡ 0 → Done text told lent after)

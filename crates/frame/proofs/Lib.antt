@@ -4,6 +4,7 @@ pub mod Hex
 pub mod Judged
 pub mod MediaDigits
 pub mod Accepted
+pub mod LineNumbers
 pub mod Frames
 pub mod ReadsItsLine
 pub mod OnlyLine

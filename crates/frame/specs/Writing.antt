@@ -1,10 +1,11 @@
 -- What writing a frame into a lent buffer gives: the number 0, 5 or 6, the length, and the buffer to its last byte. Assumes nothing.
 use Prim.Native.Nat.{ℕ}
-use mathlib.Core.List.{List, [], _∷_, _++_}
-use mathlib.Core.Bool.{not, cond}
-use lib.ListN.{length, drop}
-use lib.Dec.{ltb, eqb}
+use mathlib.Core.List.{List, [], _∷_}
+use mathlib.Core.Bool.{not}
+use lib.ListN.{length}
+use lib.Dec.{ltb}
 use Rattle.frame.specs.Number.{firstGiven}
+use Rattle.frame.specs.Lent.{told, lentAfter}
 use Rattle.frame.specs.Frame.{inRange}
 use Rattle.frame.specs.Layout.{lineOf}
 use Rattle.frame.specs.declared.Media.{Media}
@@ -18,13 +19,8 @@ writeNumber m media out =
 
 -- the number, and the line's length where it is 0
 unfoldable pub writtenOf : Message → Media → List ℕ → Written
-writtenOf m media out =
-    record {
-      number = writeNumber m media out;
-      length = cond (eqb (writeNumber m media out) 0) (length (lineOf m media)) 0;
-    }
+writtenOf m media out = told (writeNumber m media out) (lineOf m media)
 
--- where it writes, the line and behind it the bytes that stood there; where it refuses, every byte that stood there
+-- the buffer with the line at its front, or as it was
 unfoldable pub bufferOf : Message → Media → List ℕ → List ℕ
-bufferOf m media out =
-    cond (eqb (writeNumber m media out) 0) (lineOf m media ++ drop (length (lineOf m media)) out) out
+bufferOf m media out = lentAfter (writeNumber m media out) (lineOf m media) out

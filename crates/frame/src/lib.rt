@@ -86,7 +86,7 @@ pub struct Reading {
     pub media: Media,
 }
 
-// The writer's answer: the number, and the line's length where the number is 0.
+// What writing into a lent buffer answers: the number, and the length of what it wrote, 0 where the number refuses.
 pub struct Written {
     pub number: u8,
     pub length: usize,

@@ -1,0 +1,4 @@
+pub mod Lines
+pub mod LineByLine
+pub mod Turns
+pub mod Room

@@ -1,0 +1,124 @@
+-- The answer to a log: line by line, three times as long as the log at most, and none to an empty log. Assumes nothing.
+use mathlib.Core.Path.{_≡_, refl, sym, ap, ap₂, _∙_}
+use mathlib.Core.List.{List, [], _∷_, _++_, append-nil, flatten, map}
+use mathlib.Core.Bool.{Bool, true, false, not, cond, _||_, false≢true}
+use Prim.Native.Nat.{ℕ, zero, suc, _+_, _*_, _-_, _<_, _≤_}
+use native.Mathlib.Nat.{le-of-suc-le-suc}
+use native.Mathlib.Omega.{arith}
+use lib.Dec.{eqb}
+use lib.ListN.{length, take, drop, getD, replicate, length-append, length-replicate}
+use borrow.Author.Tests.{eq-eqb, ne-eqb, not-true}
+use Rattle.frame.specs.Digits.{allDigits}
+use Rattle.frame.specs.Line.{refusalOf, lineNumber}
+use Rattle.frame.proofs.Laws.{and-split}
+use Rattle.frame.proofs.LineNumbers.{unended-number}
+use Rattle.frame.proofs.OnlyLine.{one-line-end}
+use Rattle.log.specs.Lines.{isEnd, linesOf, joined, firstLine, afterFirst, isEnded, isUnended, cutAtEnds}
+use Rattle.log.specs.Answer.{refusalLine, answerTo, answerOf}
+use Rattle.log.proofs.Lines.{lines-joined, lines-first, lines-cut-at-ends, ended-first, cut-first}
+
+-- ---- a line
+
+-- a readable line comes back
+pub answer-readable : (line : List ℕ) → lineNumber line ≡ 0 → answerTo line ≡ line
+unfolding answerTo
+answer-readable line e = rw (eq-eqb _ _ e)
+
+-- any other gives its number
+pub answer-refused : (line : List ℕ) → (lineNumber line ≡ 0 → ⊥) → answerTo line ≡ refusalLine (lineNumber line)
+unfolding answerTo
+answer-refused line f = rw (ne-eqb _ _ f)
+
+-- no byte of an unended piece is 0A
+unended-byte : (piece : List ℕ) (i : ℕ) → i < length piece → isUnended piece ≡ true → isEnd (getD piece i 0) ≡ false
+unended-byte [] i k h = absurd (false≢true h)
+unended-byte (x ∷ []) zero k h = not-true _ h
+unended-byte (x ∷ []) (suc i) k h = let z : ⊥ = omega arith in absurd z
+unended-byte (x ∷ y ∷ piece) zero k h = not-true _ (and-split (not (isEnd x)) (isUnended (y ∷ piece)) h .0)
+unended-byte (x ∷ y ∷ piece) (suc i) k h =
+    unended-byte (y ∷ piece) i (le-of-suc-le-suc k) (and-split (not (isEnd x)) (isUnended (y ∷ piece)) h .1)
+
+-- it has a byte
+unended-some : (piece : List ℕ) → isUnended piece ≡ true → 1 ≤ length piece
+unended-some [] h = absurd (false≢true h)
+unended-some (x ∷ piece) h = omega arith
+
+-- an unended piece gives 1
+pub answer-unended : (piece : List ℕ) → isUnended piece ≡ true → answerTo piece ≡ refusalLine 1
+answer-unended piece h =
+    let some = unended-some piece h in
+    let last : not (isEnd (getD piece (length piece - 1) 0)) ≡ true = ap not (unended-byte piece (length piece - 1) (omega arith) h) in
+    let e = unended-number piece (or-right (eqb (length piece) 0) last) in
+    answer-refused piece (λ z. let w : ⊥ = omega arith in absurd w) ∙ ap refusalLine e
+  where
+    or-right : (a : Bool) {b : Bool} → b ≡ true → (a || b) ≡ true
+    or-right true e = refl
+    or-right false e = e
+
+-- an answer is at most three times as long as its line
+pub line-answer-within : (line : List ℕ) → 1 ≤ length line → length (answerTo line) ≤ 3 * length line
+unfolding answerTo
+line-answer-within line h = go (eqb (lineNumber line) 0)
+  where
+    go : (b : Bool) → length (cond b line (refusalLine (lineNumber line))) ≤ 3 * length line
+    go true = omega arith
+    go false = omega arith
+
+-- ---- a log
+
+-- no log, no answer
+pub answer-none : answerOf [] ≡ []
+unfolding answerOf linesOf flatten
+answer-none = refl
+
+-- the answer to the first line, then the answer to what stands behind it
+pub answer-first : (log : List ℕ) → 1 ≤ length log → answerOf log ≡ answerTo (firstLine log) ++ answerOf (afterFirst log)
+unfolding answerOf flatten
+answer-first log h = ap (λ (lines : List (List ℕ)). joined (map answerTo lines)) (lines-first log h)
+
+-- an ended line ahead of a log: a log may be cut behind any line end, and its parts answered one by one
+pub answer-ahead : (line log : List ℕ) → isEnded line ≡ true → answerOf (line ++ log) ≡ answerTo line ++ answerOf log
+unfolding answerOf flatten
+answer-ahead line log h = ap (λ (lines : List (List ℕ)). joined (map answerTo lines)) (ended-first line log h)
+
+-- the answers to lines are at most three times as long as the lines
+answers-within : (lines : List (List ℕ)) → cutAtEnds lines ≡ true → length (joined (map answerTo lines)) ≤ 3 * length (joined lines)
+unfolding flatten
+answers-within [] h = omega arith
+answers-within (l ∷ lines) h =
+    let p = cut-first l lines h in
+    let first = line-answer-within l (p .0) in
+    let others = answers-within lines (p .1) in
+    rw (length-append (answerTo l) (joined (map answerTo lines)), length-append l (joined lines)) (omega (arith, first, others))
+
+-- the answer is at most three times as long as the log
+pub answer-within : (log : List ℕ) → length (answerOf log) ≤ 3 * length log
+unfolding answerOf
+answer-within log = rw (lines-joined log) at (answers-within (linesOf log) (lines-cut-at-ends log))
+
+-- every line is readable
+abbrev AllReadable : List (List ℕ) → Type 0
+AllReadable [] = Unit {0}
+AllReadable (l ∷ lines) = (lineNumber l ≡ 0) × AllReadable lines
+
+-- then their answers are the lines
+answers-readable : (lines : List (List ℕ)) → AllReadable lines → map answerTo lines ≡ lines
+answers-readable [] h = refl
+answers-readable (l ∷ lines) h = ap₂ (λ (x : List ℕ) (rest : List (List ℕ)). x ∷ rest) (answer-readable l (h .0)) (answers-readable lines (h .1))
+
+-- a log whose lines are all readable comes back as it is
+pub answer-all-readable : (log : List ℕ) → AllReadable (linesOf log) → answerOf log ≡ log
+unfolding answerOf
+answer-all-readable log h = ap joined (answers-readable (linesOf log) h) ∙ lines-joined log
+
+-- a 0A alone gives 3
+answer-line-end : answerTo (0x0a ∷ []) ≡ refusalLine 3
+unfolding answerTo refusalOf allDigits
+answer-line-end = refl
+
+-- so a log of 0A alone gives 3 at each: an answer can be three times as long as the log
+pub answer-line-ends : (n : ℕ) → answerOf (replicate n 0x0a) ≡ joined (replicate n (refusalLine 3))
+unfolding flatten
+answer-line-ends zero = answer-none
+answer-line-ends (suc n) =
+    answer-ahead (0x0a ∷ []) (replicate n 0x0a) refl ∙ ap₂ _++_ answer-line-end (answer-line-ends n)

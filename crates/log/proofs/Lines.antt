@@ -1,0 +1,183 @@
+-- The lines of a log: joined they are the log, the first comes off its front, only the last may be unended, and no other lines do.
+-- Assumes nothing.
+use mathlib.Core.Path.{_≡_, refl, sym, ap, ap₂, _∙_}
+use mathlib.Core.Logic.{⊎-elim}
+use mathlib.Core.List.{List, [], _∷_, _++_, append-nil, flatten}
+use mathlib.Core.Bool.{Bool, true, false, not, cond, _&&_, _||_, false≢true}
+use Prim.Native.Nat.{ℕ, zero, suc, _+_, _<_, _≤_}
+use native.Mathlib.Nat.{add-zero, add-suc, zero-add}
+use native.Mathlib.Omega.{arith}
+use lib.ListN.{length, take, drop, getD, length-append, drop-of-length-le}
+use lib.Seq.{length-take-le, take-append-seam, drop-append-seam, drop-cons}
+use borrow.Author.Tests.{not-true}
+use Rattle.frame.specs.Lent.{Front}
+use Rattle.frame.proofs.Laws.{and-split, or-cases, or-split}
+use Rattle.log.specs.Lines.{isEnd, ahead, linesOf, joined, firstLine, afterFirst, endWithin, isEnded, isUnended, cutAtEnds}
+
+-- ---- joined
+
+-- a byte put at the front of the first line is put at the front of the log
+joined-ahead : (x : ℕ) (lines : List (List ℕ)) → joined (ahead x lines) ≡ x ∷ joined lines
+unfolding flatten
+joined-ahead x [] = refl
+joined-ahead x (l ∷ lines) = refl
+
+-- the lines of a log, joined, are the log
+pub lines-joined : (log : List ℕ) → joined (linesOf log) ≡ log
+unfolding linesOf flatten
+lines-joined [] = refl
+lines-joined (x ∷ log) = go (isEnd x) (lines-joined log)
+  where
+    go : (b : Bool) → joined (linesOf log) ≡ log → joined (cond b ((x ∷ []) ∷ linesOf log) (ahead x (linesOf log))) ≡ x ∷ log
+    go true h = ap (λ (s : List ℕ). x ∷ s) h
+    go false h = joined-ahead x (linesOf log) ∙ ap (λ (s : List ℕ). x ∷ s) h
+
+-- ---- the first line and the rest
+
+-- a log is its first line and what stands behind it
+pub first-and-after : (log : List ℕ) → firstLine log ++ afterFirst log ≡ log
+unfolding firstLine afterFirst
+first-and-after [] = refl
+first-and-after (x ∷ log) = go (isEnd x) (first-and-after log)
+  where
+    go : (b : Bool) → firstLine log ++ afterFirst log ≡ log → x ∷ (cond b [] (firstLine log) ++ cond b log (afterFirst log)) ≡ x ∷ log
+    go true h = refl
+    go false h = ap (λ (s : List ℕ). x ∷ s) h
+
+-- the lines of a log that is not empty: the first line, then the lines of what stands behind it
+pub lines-first : (log : List ℕ) → 1 ≤ length log → linesOf log ≡ firstLine log ∷ linesOf (afterFirst log)
+unfolding linesOf firstLine afterFirst
+lines-first [] h = absurd (omega arith)
+lines-first (x ∷ []) h = go (isEnd x)
+  where
+    go : (b : Bool) → cond b ((x ∷ []) ∷ []) ((x ∷ []) ∷ []) ≡ (x ∷ cond b [] []) ∷ linesOf (cond b [] [])
+    go true = refl
+    go false = refl
+lines-first (x ∷ y ∷ log) h = go (isEnd x) (lines-first (y ∷ log) (omega arith))
+  where
+    go : (b : Bool) → linesOf (y ∷ log) ≡ firstLine (y ∷ log) ∷ linesOf (afterFirst (y ∷ log))
+        → cond b ((x ∷ []) ∷ linesOf (y ∷ log)) (ahead x (linesOf (y ∷ log))) ≡ (x ∷ cond b [] (firstLine (y ∷ log))) ∷ linesOf (cond b (y ∷ log) (afterFirst (y ∷ log)))
+    go true e = refl
+    go false e = ap (ahead x) e
+
+-- the first line is the front of the log, by its length
+pub first-is-front : (log : List ℕ) → take (length (firstLine log)) log ≡ firstLine log
+first-is-front log =
+    ap (take (length (firstLine log))) (sym (first-and-after log)) ∙ take-append-seam (firstLine log) (afterFirst log)
+
+-- and what stands behind it is the rest
+pub after-is-rest : (log : List ℕ) → drop (length (firstLine log)) log ≡ afterFirst log
+after-is-rest log =
+    ap (drop (length (firstLine log))) (sym (first-and-after log)) ∙ drop-append-seam (firstLine log) (afterFirst log)
+
+-- the first line is no longer than the log
+pub first-within : (log : List ℕ) → length (firstLine log) ≤ length log
+first-within log =
+    let e : length (firstLine log) + length (afterFirst log) ≡ length log = sym (length-append (firstLine log) (afterFirst log)) ∙ ap length (first-and-after log) in
+    omega arith
+
+-- and has a byte where the log has one
+pub first-some : (log : List ℕ) → 1 ≤ length log → 1 ≤ length (firstLine log)
+unfolding firstLine
+first-some [] h = h
+first-some (x ∷ log) h = omega arith
+
+-- a count that is not over the length counts bytes at the front
+pub front : (n : ℕ) (l : List ℕ) → n ≤ length l → Front n l
+front n l h = (h, sym (length-take-le n l h))
+
+-- ---- byte by byte
+
+-- a byte that ends no line makes the first line one longer
+pub first-more : (log : List ℕ) (at : ℕ) → at < length log → isEnd (getD log at 0) ≡ false
+    → length (firstLine (drop at log)) ≡ suc (length (firstLine (drop (suc at) log)))
+unfolding firstLine
+first-more log at h e = rw (drop-cons log at 0 h, e)
+
+-- a byte that ends a line is its last
+pub first-stop : (log : List ℕ) (at : ℕ) → at < length log → isEnd (getD log at 0) ≡ true → length (firstLine (drop at log)) ≡ 1
+unfolding firstLine
+first-stop log at h e = rw (drop-cons log at 0 h, e)
+
+-- behind the last byte there is no line
+pub first-none : (log : List ℕ) (at : ℕ) → length log ≤ at → length (firstLine (drop at log)) ≡ 0
+unfolding firstLine
+first-none log at h = rw (drop-of-length-le log h)
+
+-- n bytes that end no line make the first line n longer
+pub first-skips : (n : ℕ) (log : List ℕ) (at : ℕ) → at + n ≤ length log → endWithin n log at ≡ false
+    → length (firstLine (drop at log)) ≡ n + length (firstLine (drop (at + n) log))
+first-skips zero log at h e = rw (add-zero, zero-add)
+first-skips (suc n) log at h e =
+    let p = or-split (endWithin n log at) (isEnd (getD log (at + n) 0)) e in
+    let before = first-skips n log at (omega arith) (p .0) in
+    let last = first-more log (at + n) (omega arith) (p .1) in
+    rw add-suc (omega (arith, before, last))
+
+-- ---- only the last may be unended, and no other lines do
+
+-- a byte ahead of lines that are cut at their ends
+ahead-cut : (x : ℕ) → isEnd x ≡ false → (lines : List (List ℕ)) → cutAtEnds lines ≡ true → cutAtEnds (ahead x lines) ≡ true
+ahead-cut x e [] h = rw e
+ahead-cut x e ([] ∷ []) h = absurd (false≢true h)
+ahead-cut x e ([] ∷ next ∷ lines) h = absurd (false≢true h)
+ahead-cut x e ((y ∷ l) ∷ []) h = rw e h
+ahead-cut x e ((y ∷ l) ∷ next ∷ lines) h = rw e h
+
+-- an ended line ahead of lines that are cut at their ends
+ended-cut : (l : List ℕ) → isEnded l ≡ true → (lines : List (List ℕ)) → cutAtEnds lines ≡ true → cutAtEnds (l ∷ lines) ≡ true
+ended-cut l e [] h = rw e
+ended-cut l e (next ∷ lines) h = rw e h
+
+-- every line of a log is ended, but the last may be an unended piece
+pub lines-cut-at-ends : (log : List ℕ) → cutAtEnds (linesOf log) ≡ true
+unfolding linesOf
+lines-cut-at-ends [] = refl
+lines-cut-at-ends (x ∷ log) = go (isEnd x) refl (lines-cut-at-ends log)
+  where
+    go : (b : Bool) → isEnd x ≡ b → cutAtEnds (linesOf log) ≡ true → cutAtEnds (cond b ((x ∷ []) ∷ linesOf log) (ahead x (linesOf log))) ≡ true
+    go true e h = ended-cut (x ∷ []) e (linesOf log) h
+    go false e h = ahead-cut x e (linesOf log) h
+
+-- an ended line ahead of a log is its first line
+pub ended-first : (line log : List ℕ) → isEnded line ≡ true → linesOf (line ++ log) ≡ line ∷ linesOf log
+unfolding linesOf
+ended-first [] log h = absurd (false≢true h)
+ended-first (x ∷ []) log h = rw h
+ended-first (x ∷ y ∷ line) log h =
+    let p = and-split (not (isEnd x)) (isEnded (y ∷ line)) h in
+    let e : isEnd x ≡ false = not-true _ (p .0) in
+    ap (λ (b : Bool). cond b ((x ∷ []) ∷ linesOf (y ∷ line ++ log)) (ahead x (linesOf (y ∷ line ++ log)))) e
+    ∙ ap (ahead x) (ended-first (y ∷ line) log (p .1))
+
+-- an unended piece is one line
+pub unended-alone : (piece : List ℕ) → isUnended piece ≡ true → linesOf piece ≡ piece ∷ []
+unfolding linesOf
+unended-alone [] h = absurd (false≢true h)
+unended-alone (x ∷ []) h = go (isEnd x)
+  where
+    go : (b : Bool) → cond b ((x ∷ []) ∷ []) ((x ∷ []) ∷ []) ≡ (x ∷ []) ∷ []
+    go true = refl
+    go false = refl
+unended-alone (x ∷ y ∷ piece) h =
+    let p = and-split (not (isEnd x)) (isUnended (y ∷ piece)) h in
+    let e : isEnd x ≡ false = not-true _ (p .0) in
+    ap (λ (b : Bool). cond b ((x ∷ []) ∷ linesOf (y ∷ piece)) (ahead x (linesOf (y ∷ piece)))) e
+    ∙ ap (ahead x) (unended-alone (y ∷ piece) (p .1))
+
+-- lines that are cut at their ends are the lines of their log: no other lines make it up
+pub lines-are-the-only-ones : (lines : List (List ℕ)) → cutAtEnds lines ≡ true → linesOf (joined lines) ≡ lines
+unfolding linesOf flatten
+lines-are-the-only-ones [] h = refl
+lines-are-the-only-ones (l ∷ []) h =
+    ⊎-elim (ended-first l []) (λ u. ap linesOf (append-nil l) ∙ unended-alone l u) (or-cases (isEnded l) (isUnended l) h)
+lines-are-the-only-ones (l ∷ next ∷ lines) h =
+    let p = and-split (isEnded l) (cutAtEnds (next ∷ lines)) h in
+    ended-first l (joined (next ∷ lines)) (p .0) ∙ ap (λ (rest : List (List ℕ)). l ∷ rest) (lines-are-the-only-ones (next ∷ lines) (p .1))
+
+-- where lines are cut at their ends, the first has a byte and the others are so too
+pub cut-first : (l : List ℕ) (lines : List (List ℕ)) → cutAtEnds (l ∷ lines) ≡ true → (1 ≤ length l) × (cutAtEnds lines ≡ true)
+cut-first [] [] h = absurd (false≢true h)
+cut-first [] (next ∷ lines) h = absurd (false≢true h)
+cut-first (x ∷ l) [] h = (omega arith, refl)
+cut-first (x ∷ l) (next ∷ lines) h = (omega arith, and-split (isEnded (x ∷ l)) (cutAtEnds (next ∷ lines)) h .1)

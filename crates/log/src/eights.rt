@@ -1,0 +1,34 @@
+// Bytes looked at eight at a time.
+ghost use mathlib.Core.Path.{_≡_};
+ghost use Prim.Native.Nat.{_+_, _≤_};
+ghost use lib.ListN.{length, drop};
+ghost use Rattle.log.specs.Lines.{firstLine, endWithin};
+
+// Whether one of the eight bytes from place at on ends a line.
+fn end_in_eight(part: &[u8], at: usize) -> bool
+    requires { ⌜ at + 8 ≤ length (now part) ⌝ }
+    ensures { λ r. ⌜ r ≡ endWithin 8 (now (part .entry)) at ⌝ }
+{
+    (part[at] == 0x0a)
+        | (part[at + 1] == 0x0a)
+        | (part[at + 2] == 0x0a)
+        | (part[at + 3] == 0x0a)
+        | (part[at + 4] == 0x0a)
+        | (part[at + 5] == 0x0a)
+        | (part[at + 6] == 0x0a)
+        | (part[at + 7] == 0x0a)
+}
+
+// How many bytes at the front, in eights, come before the eight with a line end in them, or before fewer than eight.
+pub(crate) fn eights_without_end(part: &[u8]) -> usize
+    ensures { λ r. ⌜ (r ≤ length (now (part .entry))) × (length (firstLine (now (part .entry))) ≡ r + length (firstLine (drop r (now (part .entry))))) ⌝ }
+{
+    let mut at = 0;
+    while 8 <= part.len() - at {
+        if end_in_eight(part, at) {
+            return at;
+        }
+        at += 8;
+    }
+    at
+}

@@ -1,0 +1,32 @@
+#!/usr/bin/env bash
+# host/program.sh NAME: runs the program NAME of crates/ on this standard input and output, under the loader and C library of the Rattle
+# kit, and under its emulator where the machine is not x86-64. Before that it proves and builds NAME quietly, where anything has changed.
+set -u
+name=${1:?usage: host/program.sh NAME}
+root=$(cd "$(dirname "${BASH_SOURCE[0]}")/.." && pwd -P) || exit 2
+
+# Says one line on standard error and gives up.
+fail() {
+    echo "$name: $*" >&2
+    exit 2
+}
+
+rt=$(command -v rt) || fail "rt, the command of the Rattle kit, is not on the PATH"
+kit=${RATTLE_HOME:-$(dirname "$(dirname "$(readlink -f "$rt")")")}
+tools=$kit/on/$(uname -m)/toolchain
+loader=$tools/lib/ld-linux-x86-64.so.2
+emulator=$tools/bin/qemu-x86_64
+program=$root/target/bin/$name
+[ -e "$loader" ] || fail "the Rattle kit has no loader where it should have one: set RATTLE_HOME to the kit's folder"
+
+# rt takes less than a second to see that nothing has changed, but it does not look for the program itself.
+if [ ! -x "$program" ]; then
+    rm -f "$root/target/stamp/$name"
+    echo "$name: proving and building it first: a minute or two, once" >&2
+fi
+said=$(cd "$root" && "$rt" check "$name" </dev/null 2>&1) || fail "not built; rt check $name says:"$'\n'"$said"
+
+if [ -x "$emulator" ]; then
+    exec "$emulator" "$loader" --library-path "$tools/lib" "$program"
+fi
+exec "$loader" --library-path "$tools/lib" "$program"

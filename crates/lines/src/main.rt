@@ -1,4 +1,5 @@
-// Answers a log: reads at most the first 65,536 bytes of standard input, and writes what `log::answer_log` says of them to standard output.
+// Answers a log: reads at most the first 65,536 bytes of standard input, and writes what `log::answer_log` says of
+// them to standard output.
 use libc::STDIN_FILENO;
 use libc::STDOUT_FILENO;
 

@@ -1,18 +1,22 @@
 -- The answer to a log: line by line, three times as long as the log at most, and none to an empty log. Assumes nothing.
 use mathlib.Core.Path.{_≡_, refl, sym, ap, ap₂, _∙_}
-use mathlib.Core.List.{List, [], _∷_, _++_, append-nil, flatten, map}
+use mathlib.Core.List.{List, [], _∷_, _++_, flatten, map}
 use mathlib.Core.Bool.{Bool, true, false, not, cond, _||_, false≢true}
 use Prim.Native.Nat.{ℕ, zero, suc, _+_, _*_, _-_, _<_, _≤_}
 use native.Mathlib.Nat.{le-of-suc-le-suc}
 use native.Mathlib.Omega.{arith}
 use lib.Dec.{eqb}
-use lib.ListN.{length, take, drop, getD, replicate, length-append, length-replicate}
+use lib.ListN.{length, getD, replicate, length-append}
 use borrow.Author.Tests.{eq-eqb, ne-eqb, not-true}
 use Rattle.frame.specs.Digits.{allDigits}
-use Rattle.frame.specs.Line.{refusalOf, lineNumber}
+use Rattle.frame.specs.Layout.{lineOf}
+use Rattle.frame.specs.Line.{refusalOf, numberOf, reading, readLine, lineNumber}
+use Rattle.frame.specs.declared.Media.{Media}
+use Rattle.frame.specs.declared.Message.{Message}
+use Rattle.frame.specs.declared.Reading.{Reading}
 use Rattle.frame.proofs.Laws.{and-split}
 use Rattle.frame.proofs.LineNumbers.{unended-number}
-use Rattle.frame.proofs.OnlyLine.{one-line-end}
+use Rattle.frame.proofs.OnlyLine.{line-is-the-only-one, number-read}
 use Rattle.log.specs.Lines.{isEnd, linesOf, joined, firstLine, afterFirst, isEnded, isUnended, cutAtEnds}
 use Rattle.log.specs.Answer.{refusalLine, answerTo, answerOf}
 use Rattle.log.proofs.Lines.{lines-joined, lines-first, lines-cut-at-ends, ended-first, cut-first}
@@ -23,6 +27,11 @@ use Rattle.log.proofs.Lines.{lines-joined, lines-first, lines-cut-at-en
 pub answer-readable : (line : List ℕ) → lineNumber line ≡ 0 → answerTo line ≡ line
 unfolding answerTo
 answer-readable line e = rw (eq-eqb _ _ e)
+
+-- and it is the line that the writer writes for what the reader reads
+pub answer-written : (line : List ℕ) (m : Message) (media : Media) → readLine line ≡ reading m media → answerTo line ≡ lineOf m media
+answer-written line m media e =
+    answer-readable line (sym (number-read line) ∙ ap (λ (r : Reading). numberOf (r .read)) e) ∙ line-is-the-only-one line m media e .0
 
 -- any other gives its number
 pub answer-refused : (line : List ℕ) → (lineNumber line ≡ 0 → ⊥) → answerTo line ≡ refusalLine (lineNumber line)

@@ -21,7 +21,8 @@ fn end_in_eight(part: &[u8], at: usize) -> bool
 
 // How many bytes at the front, in eights, come before the eight with a line end in them, or before fewer than eight.
 pub(crate) fn eights_without_end(part: &[u8]) -> usize
-    ensures { λ r. ⌜ (r ≤ length (now (part .entry))) × (length (firstLine (now (part .entry))) ≡ r + length (firstLine (drop r (now (part .entry))))) ⌝ }
+    ensures { λ r. ⌜ r ≤ length (now (part .entry)) ⌝ }
+    ensures { λ r. ⌜ length (firstLine (now (part .entry))) ≡ r + length (firstLine (drop r (now (part .entry)))) ⌝ }
 {
     let mut at = 0;
     while 8 <= part.len() - at {

@@ -24,7 +24,8 @@ pub fn first_line_length(part: &[u8]) -> usize
     at
 }
 
-// The answer to a log at the front of a lent buffer: each readable line, and for any other `!`, its number and a line end; 6 where there is no room.
+// The answer to a log at the front of a lent buffer: each readable line, and for any other `!`, its number and a
+// line end; 6 where there is no room.
 pub fn answer_log(log: &[u8], out: &mut [u8]) -> Written
     ensures { λ r. ⌜ r ≡ answeredOf (now (log .entry)) (now (out .entry)) ⌝ }
     ensures { λ _. ⌜ now (out .exit) ≡ answerBuffer (now (log .entry)) (now (out .entry)) ⌝ }

@@ -1,5 +1,4 @@
 -- `log::answers::put_answers` meets its contract: what is written and the answer to what is left make the answer. Assumes nothing.
-use mathlib.Core.Path.{_≡_}
 use Prim.Native.Nat.{_-_, _≤_}
 use native.Mathlib.Omega.{arith}
 use lib.ListN.{length, take}

@@ -4,7 +4,6 @@ use Prim.Native.Nat.{_+_, _-_, _≤_}
 use native.Mathlib.Nat.{zero-add}
 use native.Mathlib.Omega.{arith}
 use lib.ListN.{length, drop}
-use borrow.Author.Tests.{not-false}
 use Rattle.log.specs.Lines.{firstLine}
 use Rattle.log.proofs.Lines.{first-skips}
 use borrow.Author.Needs.{needs}

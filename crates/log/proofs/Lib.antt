@@ -2,3 +2,4 @@ pub mod Lines
 pub mod LineByLine
 pub mod Turns
 pub mod Room
+pub mod Parts

@@ -6,20 +6,19 @@ use Prim.Native.Nat.{ℕ, zero, suc, _+_, _*_, _-_, _<_, _≤_}
 use native.Mathlib.Nat.{le-of-suc-le-suc}
 use native.Mathlib.Omega.{arith}
 use lib.Dec.{eqb}
-use lib.ListN.{length, getD, replicate, length-append}
+use lib.ListN.{length, getD, length-append}
 use borrow.Author.Tests.{eq-eqb, ne-eqb, not-true}
-use Rattle.frame.specs.Digits.{allDigits}
 use Rattle.frame.specs.Layout.{lineOf}
-use Rattle.frame.specs.Line.{refusalOf, numberOf, reading, readLine, lineNumber}
+use Rattle.frame.specs.Line.{numberOf, reading, readLine, lineNumber}
 use Rattle.frame.specs.declared.Media.{Media}
 use Rattle.frame.specs.declared.Message.{Message}
 use Rattle.frame.specs.declared.Reading.{Reading}
 use Rattle.frame.proofs.Laws.{and-split}
 use Rattle.frame.proofs.LineNumbers.{unended-number}
 use Rattle.frame.proofs.OnlyLine.{line-is-the-only-one, number-read}
-use Rattle.log.specs.Lines.{isEnd, linesOf, joined, firstLine, afterFirst, isEnded, isUnended, cutAtEnds}
-use Rattle.log.specs.Answer.{refusalLine, answerTo, answerOf}
-use Rattle.log.proofs.Lines.{lines-joined, lines-first, lines-cut-at-ends, ended-first, cut-first}
+use Rattle.log.specs.Lines.{isEnd, linesOf, joined, firstLine, afterFirst, isUnended, cutAtEnds}
+use Rattle.log.specs.Answer.{refusalLine, answerTo, answerOf, AllReadable}
+use Rattle.log.proofs.Lines.{lines-joined, lines-first, lines-cut-at-ends, cut-first}
 
 -- ---- a line
 
@@ -85,11 +84,6 @@ pub answer-first : (log : List ℕ) → 1 ≤ length log → answerOf log ≡ an
 unfolding answerOf flatten
 answer-first log h = ap (λ (lines : List (List ℕ)). joined (map answerTo lines)) (lines-first log h)
 
--- an ended line ahead of a log: a log may be cut behind any line end, and its parts answered one by one
-pub answer-ahead : (line log : List ℕ) → isEnded line ≡ true → answerOf (line ++ log) ≡ answerTo line ++ answerOf log
-unfolding answerOf flatten
-answer-ahead line log h = ap (λ (lines : List (List ℕ)). joined (map answerTo lines)) (ended-first line log h)
-
 -- the answers to lines are at most three times as long as the lines
 answers-within : (lines : List (List ℕ)) → cutAtEnds lines ≡ true → length (joined (map answerTo lines)) ≤ 3 * length (joined lines)
 unfolding flatten
@@ -105,12 +99,7 @@ pub answer-within : (log : List ℕ) → length (answerOf log) ≤ 3 * length lo
 unfolding answerOf
 answer-within log = rw (lines-joined log) at (answers-within (linesOf log) (lines-cut-at-ends log))
 
--- every line is readable
-abbrev AllReadable : List (List ℕ) → Type 0
-AllReadable [] = Unit {0}
-AllReadable (l ∷ lines) = (lineNumber l ≡ 0) × AllReadable lines
-
--- then their answers are the lines
+-- readable lines are their own answers
 answers-readable : (lines : List (List ℕ)) → AllReadable lines → map answerTo lines ≡ lines
 answers-readable [] h = refl
 answers-readable (l ∷ lines) h = ap₂ (λ (x : List ℕ) (rest : List (List ℕ)). x ∷ rest) (answer-readable l (h .0)) (answers-readable lines (h .1))
@@ -119,15 +108,3 @@ answers-readable (l ∷ lines) h = ap₂ (λ (x : List ℕ) (rest : List (List �
 pub answer-all-readable : (log : List ℕ) → AllReadable (linesOf log) → answerOf log ≡ log
 unfolding answerOf
 answer-all-readable log h = ap joined (answers-readable (linesOf log) h) ∙ lines-joined log
-
--- a 0A alone gives 3
-answer-line-end : answerTo (0x0a ∷ []) ≡ refusalLine 3
-unfolding answerTo refusalOf allDigits
-answer-line-end = refl
-
--- so a log of 0A alone gives 3 at each: an answer can be three times as long as the log
-pub answer-line-ends : (n : ℕ) → answerOf (replicate n 0x0a) ≡ joined (replicate n (refusalLine 3))
-unfolding flatten
-answer-line-ends zero = answer-none
-answer-line-ends (suc n) =
-    answer-ahead (0x0a ∷ []) (replicate n 0x0a) refl ∙ ap₂ _++_ answer-line-end (answer-line-ends n)

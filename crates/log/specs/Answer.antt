@@ -1,5 +1,6 @@
 -- The answer to a log of lines, and its place in a lent buffer. Assumes nothing.
 use Prim.Native.Nat.{ℕ, _+_}
+use mathlib.Core.Path.{_≡_}
 use mathlib.Core.List.{List, [], _∷_, map}
 use mathlib.Core.Bool.{cond}
 use lib.ListN.{length}
@@ -29,6 +30,11 @@ answerTo line = cond (eqb (lineNumber line) 0) line (refusalLine (lineNumber lin
 -- the answer to a log: the answers to its lines, one after the other
 unfoldable pub answerOf : List ℕ → List ℕ
 answerOf log = joined (map answerTo (linesOf log))
+
+-- every line is readable
+abbrev pub AllReadable : List (List ℕ) → Type 0
+AllReadable [] = Unit {0}
+AllReadable (l ∷ lines) = (lineNumber l ≡ 0) × AllReadable lines
 
 -- ---- into a lent buffer
 

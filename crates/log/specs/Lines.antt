@@ -61,3 +61,8 @@ abbrev pub cutAtEnds : List (List ℕ) → Bool
 cutAtEnds [] = true
 cutAtEnds (l ∷ []) = isEnded l || isUnended l
 cutAtEnds (l ∷ next ∷ lines) = isEnded l && cutAtEnds (next ∷ lines)
+
+-- all are ended lines: nothing stands behind the last line end
+abbrev pub allEnded : List (List ℕ) → Bool
+allEnded [] = true
+allEnded (l ∷ lines) = isEnded l && allEnded lines

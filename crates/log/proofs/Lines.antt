@@ -3,7 +3,7 @@
 use mathlib.Core.Path.{_≡_, refl, sym, ap, _∙_}
 use mathlib.Core.Logic.{⊎-elim}
 use mathlib.Core.List.{List, [], _∷_, _++_, append-nil, flatten}
-use mathlib.Core.Bool.{Bool, true, false, not, cond, false≢true}
+use mathlib.Core.Bool.{Bool, true, false, not, cond, _||_, false≢true}
 use Prim.Native.Nat.{ℕ, zero, suc, _+_, _<_, _≤_}
 use native.Mathlib.Nat.{add-zero, add-suc, zero-add}
 use native.Mathlib.Omega.{arith}
@@ -104,15 +104,26 @@ pub first-none : (log : List ℕ) (at : ℕ) → length log ≤ at → length (f
 unfolding firstLine
 first-none log at h = rw (drop-of-length-le log h)
 
--- n bytes that end no line make the first line n longer
-pub first-skips : (n : ℕ) (log : List ℕ) (at : ℕ) → at + n ≤ length log → endWithin n log at ≡ false
-    → length (firstLine (drop at log)) ≡ n + length (firstLine (drop (at + n) log))
-first-skips zero log at h e = rw (add-zero, zero-add)
-first-skips (suc n) log at h e =
-    let p = or-split (endWithin n log at) (isEnd (getD log (at + n) 0)) e in
-    let before = first-skips n log at (omega arith) (p .0) in
-    let last = first-more log (at + n) (omega arith) (p .1) in
-    rw add-suc (omega (arith, before, last))
+-- no line ends within n bytes and within the m that follow them: none ends within them all
+pub end-within-both : (n m : ℕ) (log : List ℕ) → endWithin n log 0 ≡ false → endWithin m log n ≡ false → endWithin (n + m) log 0 ≡ false
+end-within-both n zero log h k = rw add-zero h
+end-within-both n (suc m) log h k =
+    let p = or-split (endWithin m log n) (isEnd (getD log (n + m) 0)) k in
+    rw (add-suc, zero-add) (or-none (endWithin (n + m) log 0) (end-within-both n m log h (p .0)) (p .1))
+  where
+    or-none : (a : Bool) {b : Bool} → a ≡ false → b ≡ false → (a || b) ≡ false
+    or-none true e f = e
+    or-none false e f = f
+
+-- n bytes in which no line ends make the first line n longer
+pub first-skips : (n : ℕ) (log : List ℕ) → n ≤ length log → endWithin n log 0 ≡ false
+    → length (firstLine log) ≡ n + length (firstLine (drop n log))
+first-skips zero log h e = rw zero-add
+first-skips (suc n) log h e =
+    let p = or-split (endWithin n log 0) (isEnd (getD log (0 + n) 0)) e in
+    let before = first-skips n log (omega arith) (p .0) in
+    let last = first-more log n (omega arith) (rw zero-add at (p .1)) in
+    omega (arith, before, last)
 
 -- ---- only the last may be unended, and no other lines do
 

@@ -1,8 +1,9 @@
 // Bytes looked at eight at a time.
 ghost use mathlib.Core.Path.{_≡_};
 ghost use Prim.Native.Nat.{_+_, _≤_};
-ghost use lib.ListN.{length, drop};
-ghost use Rattle.log.specs.Lines.{firstLine, endWithin};
+ghost use mathlib.Core.Bool.{false};
+ghost use lib.ListN.{length};
+ghost use Rattle.log.specs.Lines.{endWithin};
 
 // Whether one of the eight bytes from place at on ends a line.
 fn end_in_eight(part: &[u8], at: usize) -> bool
@@ -19,10 +20,11 @@ fn end_in_eight(part: &[u8], at: usize) -> bool
         | (part[at + 7] == 0x0a)
 }
 
-// How many bytes at the front, in eights, come before the eight with a line end in them, or before fewer than eight.
+// How many bytes at the front, counted in eights, end no line: up to the eight in which one does, or to fewer than
+// eight.
 pub(crate) fn eights_without_end(part: &[u8]) -> usize
     ensures { λ r. ⌜ r ≤ length (now (part .entry)) ⌝ }
-    ensures { λ r. ⌜ length (firstLine (now (part .entry))) ≡ r + length (firstLine (drop r (now (part .entry)))) ⌝ }
+    ensures { λ r. ⌜ endWithin r (now (part .entry)) 0 ≡ false ⌝ }
 {
     let mut at = 0;
     while 8 <= part.len() - at {

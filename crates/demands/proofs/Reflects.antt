@@ -5,7 +5,7 @@ use mathlib.Core.Bool.{Bool, true, false, not, _&&_, _||_, true≢false}
 use Prim.Native.Nat.{ℕ, _<_, _≤_}
 use lib.Dec.{ltb, leb, eqb}
 use borrow.Author.Tests.{leb-true, ltb-true, eqb-true, le-leb, lt-ltb, eq-eqb}
-use Rattle.frame.proofs.Laws.{and-split, or-cases}
+use Rattle.frame.proofs.Laws.{and-split, or-cases, or-right}
 
 -- a test is true exactly when its condition holds
 abbrev pub Reflects : Bool → Type 0 → Type 0
@@ -41,11 +41,7 @@ and-reflects a b h k = (λ e. let p = and-split a b e in (h .0 (p .0), k .0 (p .
 
 -- either
 pub or-reflects : (a b : Bool) {A B : Type 0} → Reflects a A → Reflects b B → Reflects (a || b) (A ⊎ B)
-or-reflects a b {A} {B} h k = (λ e. ⊎-elim (λ x. inl (h .0 x)) (λ y. inr (k .0 y)) (or-cases a b e), ⊎-elim (λ x. left a (h .1 x)) (λ y. right a (k .1 y)))
+or-reflects a b {A} {B} h k = (λ e. ⊎-elim (λ x. inl (h .0 x)) (λ y. inr (k .0 y)) (or-cases a b e), ⊎-elim (λ x. left a (h .1 x)) (λ y. or-right a (k .1 y)))
   where
     left : (c : Bool) → c ≡ true → (c || b) ≡ true
     left c e = ap (λ (d : Bool). d || b) e
-
-    right : (c : Bool) → b ≡ true → (c || b) ≡ true
-    right true e = refl
-    right false e = e

@@ -1,32 +1,33 @@
 -- What the number of a line can be, for whoever asks it and not the tests behind it. Assumes nothing.
-use mathlib.Core.Path.{_≡_}
+use mathlib.Core.Path.{_≡_, refl}
 use mathlib.Core.List.{List, [], _∷_}
-use mathlib.Core.Bool.{Bool, true, false, cond}
+use mathlib.Core.Bool.{Bool, true, false, _&&_, cond}
 use Prim.Native.Nat.{ℕ, _≤_, zero-le}
-use lib.Dec.{lit≤}
+use lib.Dec.{leb}
+use borrow.Author.Tests.{leb-true}
 use Rattle.frame.specs.Number.{firstGiven}
-use Rattle.frame.specs.Line.{unended, undigital, unkind, misfit, unranged, refusalOf, lineNumber}
+use Rattle.frame.specs.Line.{unended, lineTests, refusalOf, lineNumber}
+use Rattle.frame.proofs.Laws.{and-split}
 
 -- no row's number is over n
-abbrev AtMost : ℕ → List (ℕ × Bool) → Type 0
-AtMost n [] = Unit {0}
-AtMost n (row ∷ rows) = (row .0 ≤ n) × AtMost n rows
+abbrev atMost : ℕ → List (ℕ × Bool) → Bool
+atMost n [] = true
+atMost n (row ∷ rows) = leb (row .0) n && atMost n rows
 
 -- then neither is the number that a table gives
-pub given-at-most : (n : ℕ) (rows : List (ℕ × Bool)) → AtMost n rows → firstGiven rows ≤ n
+given-at-most : (n : ℕ) (rows : List (ℕ × Bool)) → atMost n rows ≡ true → firstGiven rows ≤ n
 given-at-most n [] h = zero-le
-given-at-most n (row ∷ rows) h = go (row .1) (given-at-most n rows (h .1))
+given-at-most n (row ∷ rows) h =
+    let p = and-split (leb (row .0) n) (atMost n rows) h in go (row .1) (leb-true _ _ (p .0)) (given-at-most n rows (p .1))
   where
-    go : (b : Bool) → firstGiven rows ≤ n → cond b (row .0) (firstGiven rows) ≤ n
-    go true r = h .0
-    go false r = r
+    go : (b : Bool) → row .0 ≤ n → firstGiven rows ≤ n → cond b (row .0) (firstGiven rows) ≤ n
+    go true here later = here
+    go false here later = later
 
--- a line's number is one decimal digit, 5 at most
+-- a line's number is 5 at most
 pub line-number-at-most : (l : List ℕ) → lineNumber l ≤ 5
 unfolding refusalOf
-line-number-at-most l =
-    given-at-most 5 ((1, unended l) ∷ (2, undigital l) ∷ (3, unkind l) ∷ (4, misfit l) ∷ (5, unranged l) ∷ [])
-    (lit≤ tt, (lit≤ tt, (lit≤ tt, (lit≤ tt, (lit≤ tt, tt)))))
+line-number-at-most l = given-at-most 5 (lineTests l) refl
 
 -- a line that does not end has number 1
 pub unended-number : (l : List ℕ) → unended l ≡ true → lineNumber l ≡ 1

@@ -121,9 +121,13 @@ misfit l = not (eqb (count l) (digitsOf (kindAt l)))
 abbrev pub unranged : List ℕ → Bool
 unranged l = not (inRange (messageAt (kindAt l) l) (mediaAt (kindAt l) l))
 
+-- the tests of a line, in their order
+abbrev pub lineTests : List ℕ → List (ℕ × Bool)
+lineTests l = (1, unended l) ∷ (2, undigital l) ∷ (3, unkind l) ∷ (4, misfit l) ∷ (5, unranged l) ∷ []
+
 -- the number of a line: the first of 1 to 5 that is given, or 0
 unfoldable pub refusalOf : List ℕ → ℕ
-refusalOf l = firstGiven ((1, unended l) ∷ (2, undigital l) ∷ (3, unkind l) ∷ (4, misfit l) ∷ (5, unranged l) ∷ [])
+refusalOf l = firstGiven (lineTests l)
 
 -- ---- the reader's answer
 

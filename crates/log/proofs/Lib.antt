@@ -1,5 +1,6 @@
 pub mod Lines
 pub mod LineByLine
 pub mod Turns
+pub mod Answering
 pub mod Room
 pub mod Parts

@@ -1,8 +1,8 @@
 -- The answer to a log: line by line, three times as long as the log at most, and none to an empty log. Assumes nothing.
 use mathlib.Core.Path.{_≡_, refl, sym, ap, ap₂, _∙_}
-use mathlib.Core.List.{List, [], _∷_, _++_, flatten, map}
-use mathlib.Core.Bool.{Bool, true, false, not, cond, _||_, false≢true}
-use Prim.Native.Nat.{ℕ, zero, suc, _+_, _*_, _-_, _<_, _≤_}
+use mathlib.Core.List.{List, [], _∷_, flatten, map}
+use mathlib.Core.Bool.{Bool, true, false, not, cond, false≢true}
+use Prim.Native.Nat.{ℕ, zero, suc, _*_, _-_, _<_, _≤_}
 use native.Mathlib.Nat.{le-of-suc-le-suc}
 use native.Mathlib.Omega.{arith}
 use lib.Dec.{eqb}
@@ -13,12 +13,12 @@ use Rattle.frame.specs.Line.{numberOf, reading, readLine, lineNumber}
 use Rattle.frame.specs.declared.Media.{Media}
 use Rattle.frame.specs.declared.Message.{Message}
 use Rattle.frame.specs.declared.Reading.{Reading}
-use Rattle.frame.proofs.Laws.{and-split}
+use Rattle.frame.proofs.Laws.{and-split, or-right}
 use Rattle.frame.proofs.LineNumbers.{unended-number}
 use Rattle.frame.proofs.OnlyLine.{line-is-the-only-one, number-read}
-use Rattle.log.specs.Lines.{isEnd, linesOf, joined, firstLine, afterFirst, isUnended, cutAtEnds}
+use Rattle.log.specs.Lines.{isEnd, linesOf, joined, isUnended, cutAtEnds}
 use Rattle.log.specs.Answer.{refusalLine, answerTo, answerOf, AllReadable}
-use Rattle.log.proofs.Lines.{lines-joined, lines-first, lines-cut-at-ends, cut-first}
+use Rattle.log.proofs.Lines.{lines-joined, lines-cut-at-ends, cut-first}
 
 -- ---- a line
 
@@ -58,13 +58,9 @@ answer-unended piece h =
     let last : not (isEnd (getD piece (length piece - 1) 0)) ≡ true = ap not (unended-byte piece (length piece - 1) (omega arith) h) in
     let e = unended-number piece (or-right (eqb (length piece) 0) last) in
     answer-refused piece (λ z. let w : ⊥ = omega arith in absurd w) ∙ ap refusalLine e
-  where
-    or-right : (a : Bool) {b : Bool} → b ≡ true → (a || b) ≡ true
-    or-right true e = refl
-    or-right false e = e
 
 -- an answer is at most three times as long as its line
-pub line-answer-within : (line : List ℕ) → 1 ≤ length line → length (answerTo line) ≤ 3 * length line
+line-answer-within : (line : List ℕ) → 1 ≤ length line → length (answerTo line) ≤ 3 * length line
 unfolding answerTo
 line-answer-within line h = go (eqb (lineNumber line) 0)
   where
@@ -78,11 +74,6 @@ line-answer-within line h = go (eqb (lineNumber line) 0)
 pub answer-none : answerOf [] ≡ []
 unfolding answerOf linesOf flatten
 answer-none = refl
-
--- the answer to the first line, then the answer to what stands behind it
-pub answer-first : (log : List ℕ) → 1 ≤ length log → answerOf log ≡ answerTo (firstLine log) ++ answerOf (afterFirst log)
-unfolding answerOf flatten
-answer-first log h = ap (λ (lines : List (List ℕ)). joined (map answerTo lines)) (lines-first log h)
 
 -- the answers to lines are at most three times as long as the lines
 answers-within : (lines : List (List ℕ)) → cutAtEnds lines ≡ true → length (joined (map answerTo lines)) ≤ 3 * length (joined lines)

@@ -1,9 +1,9 @@
--- The lines of a log: joined they are the log, the first comes off its front, only the last may be unended, and no other lines do.
--- Assumes nothing.
+-- The lines of a log: joined they are the log, the first comes off its front, only the last may be unended, and no other lines make up
+-- the log. Assumes nothing.
 use mathlib.Core.Path.{_≡_, refl, sym, ap, _∙_}
 use mathlib.Core.Logic.{⊎-elim}
 use mathlib.Core.List.{List, [], _∷_, _++_, append-nil, flatten}
-use mathlib.Core.Bool.{Bool, true, false, not, cond, _||_, false≢true}
+use mathlib.Core.Bool.{Bool, true, false, not, cond, false≢true}
 use Prim.Native.Nat.{ℕ, zero, suc, _+_, _<_, _≤_}
 use native.Mathlib.Nat.{add-zero, add-suc, zero-add}
 use native.Mathlib.Omega.{arith}
@@ -11,7 +11,7 @@ use lib.ListN.{length, take, drop, getD, length-append, drop-of-length-le}
 use lib.Seq.{length-take-le, take-append-seam, drop-append-seam, drop-cons}
 use borrow.Author.Tests.{not-true}
 use Rattle.frame.specs.Lent.{Front}
-use Rattle.frame.proofs.Laws.{and-split, or-cases, or-split}
+use Rattle.frame.proofs.Laws.{and-split, or-cases, or-none, or-split}
 use Rattle.log.specs.Lines.{isEnd, ahead, linesOf, joined, firstLine, afterFirst, endWithin, isEnded, isUnended, cutAtEnds}
 
 -- ---- joined
@@ -89,7 +89,7 @@ front n l h = (h, sym (length-take-le n l h))
 -- ---- byte by byte
 
 -- a byte that ends no line makes the first line one longer
-pub first-more : (log : List ℕ) (at : ℕ) → at < length log → isEnd (getD log at 0) ≡ false
+first-more : (log : List ℕ) (at : ℕ) → at < length log → isEnd (getD log at 0) ≡ false
     → length (firstLine (drop at log)) ≡ suc (length (firstLine (drop (suc at) log)))
 unfolding firstLine
 first-more log at h e = rw (drop-cons log at 0 h, e)
@@ -110,10 +110,6 @@ end-within-both n zero log h k = rw add-zero h
 end-within-both n (suc m) log h k =
     let p = or-split (endWithin m log n) (isEnd (getD log (n + m) 0)) k in
     rw (add-suc, zero-add) (or-none (endWithin (n + m) log 0) (end-within-both n m log h (p .0)) (p .1))
-  where
-    or-none : (a : Bool) {b : Bool} → a ≡ false → b ≡ false → (a || b) ≡ false
-    or-none true e f = e
-    or-none false e f = f
 
 -- n bytes in which no line ends make the first line n longer
 pub first-skips : (n : ℕ) (log : List ℕ) → n ≤ length log → endWithin n log 0 ≡ false
@@ -125,7 +121,7 @@ first-skips (suc n) log h e =
     let last = first-more log n (omega arith) (rw zero-add at (p .1)) in
     omega (arith, before, last)
 
--- ---- only the last may be unended, and no other lines do
+-- ---- only the last may be unended, and no other lines make up the log
 
 -- a byte ahead of lines that are cut at their ends
 ahead-cut : (x : ℕ) → isEnd x ≡ false → (lines : List (List ℕ)) → cutAtEnds lines ≡ true → cutAtEnds (ahead x lines) ≡ true

@@ -9,7 +9,8 @@ ghost use Rattle.frame.specs.Lent.{Front};
 ghost use Rattle.log.specs.Lines.{firstLine};
 ghost use Rattle.log.specs.Answer.{answeredOf, answerBuffer};
 
-// The length of the first line of a part of a log, its end included; of the whole part where no line ends in it.
+// The length of the first line of a part of a log, its end included; of the whole part where no line ends in it, so 0
+// of an empty part.
 pub fn first_line_length(part: &[u8]) -> usize
     ensures { λ r. ⌜ r ≡ length (firstLine (now (part .entry))) ⌝ }
     ensures { λ r. ⌜ Front r (now (part .entry)) ⌝ }

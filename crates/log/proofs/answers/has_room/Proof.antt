@@ -7,7 +7,8 @@ use lib.ListN.{length, drop}
 use borrow.Author.Tests.{le-leb, lt-leb}
 use Rattle.log.specs.Answer.{answerOf}
 use Rattle.log.proofs.LineByLine.{answer-within}
-use Rattle.log.proofs.Turns.{Turn, turn, answer-past}
+use Rattle.log.proofs.Turns.{Turn, turn}
+use Rattle.log.proofs.Answering.{turn-length, answer-past}
 use borrow.Author.Needs.{needs}
 use Rattle.log.proofs.answers.has_room.Statement.{statement}
 use Rattle.log.proofs.answers.has_room.Tie as tie
@@ -26,11 +27,11 @@ returns-2 : tie.Need-returns-2 Inv-loop μ-loop
 returns-2 c =
     let turn = c .before .before .before in
     let start = turn .before .before .before .before .before .before .args in
-    sym (lt-leb (length (answerOf (start .log .now))) (start .room) (omega (arith, here turn .lengths, c .before .answer-length .ensures)))
+    sym (lt-leb (length (answerOf (start .log .now))) (start .room) (omega (arith, turn-length (here turn), c .before .answer-length .ensures)))
 
 loop-again : tie.Need-loop-again Inv-loop μ-loop
 loop-again c =
-    let t = here (c .before .before .before) in (omega (arith, t .within), omega (arith, t .lengths, c .before .answer-length .ensures))
+    let t = here (c .before .before .before) in (omega (arith, t .within), omega (arith, turn-length t, c .before .answer-length .ensures))
 
 returns-3 : tie.Need-returns-3 Inv-loop μ-loop
 returns-3 c =

@@ -3,7 +3,8 @@ use Prim.Native.Nat.{_-_, _≤_}
 use native.Mathlib.Omega.{arith}
 use lib.ListN.{length, take}
 use Rattle.log.specs.Answer.{answerTo}
-use Rattle.log.proofs.Turns.{partFrom, Turn, turn, SoFar, room-part, further, answered}
+use Rattle.log.proofs.Turns.{partFrom, Turn, turn}
+use Rattle.log.proofs.Answering.{SoFar, room-part, further, answered}
 use borrow.Author.Needs.{needs}
 use Rattle.log.proofs.answers.put_answers.Statement.{statement}
 use Rattle.log.proofs.answers.put_answers.Tie as tie

@@ -2,15 +2,17 @@
 # host/program.sh NAME: runs the program NAME of crates/ on this standard input and output, under the loader and C library of the Rattle
 # kit, and under its emulator where the machine is not x86-64. Before that it proves and builds NAME quietly, where anything has changed.
 set -u
-name=${1:?usage: host/program.sh NAME}
+name=${1-}
 root=$(cd "$(dirname "${BASH_SOURCE[0]}")/.." && pwd -P) || exit 2
 
 # Says one line on standard error and gives up.
 fail() {
-    echo "$name: $*" >&2
+    echo "${name:-host/program.sh}: $*" >&2
     exit 2
 }
 
+[ $# -eq 1 ] && [ -n "$name" ] || fail "usage: host/program.sh NAME"
+[ -f "$root/crates/$name/src/main.rt" ] || fail "no program of this name in crates/"
 rt=$(command -v rt) || fail "rt, the command of the Rattle kit, is not on the PATH"
 kit=${RATTLE_HOME:-$(dirname "$(dirname "$(readlink -f "$rt")")")}
 tools=$kit/on/$(uname -m)/toolchain
@@ -24,7 +26,7 @@ if [ ! -x "$program" ]; then
     rm -f "$root/target/stamp/$name"
     echo "$name: proving and building it first: a minute or two, once" >&2
 fi
-said=$(cd "$root" && "$rt" check "$name" </dev/null 2>&1) || fail "not built; rt check $name says:"$'\n'"$said"
+(cd "$root" && "$rt" check "$name") </dev/null >/dev/null 2>&1 || fail "not proved or not built: rt check $name says why"
 
 if [ -x "$emulator" ]; then
     exec "$emulator" "$loader" --library-path "$tools/lib" "$program"

@@ -1,19 +1,8 @@
 #!/usr/bin/env bash
 # The documents against the tree: what they name is there, and what they must name they do.
-# Each case prints one line, 'ok NAME' or 'FAILED NAME: what is wrong'; the exit status is not 0 where one failed.
 set -u
 cd "$(dirname "${BASH_SOURCE[0]}")/../.." || exit 2
-status=0
-
-# One case: it passes where its second word, what was found wrong, is empty.
-verdict() {
-    if [ -z "$2" ]; then
-        echo "ok $1"
-    else
-        echo "FAILED $1:" $2
-        status=1
-    fi
-}
+. host/verdict.sh
 
 # The crates of crates.txt.
 listed() { sed 's/#.*//' crates.txt | sed -n 's/^[[:space:]]*\([a-z0-9_]*\):.*/\1/p'; }

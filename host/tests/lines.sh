@@ -1,14 +1,13 @@
 #!/usr/bin/env bash
 # The program lines, built and run: the ends of its input, how it is fed, and the script at the root.
-# Each case prints one line, 'ok NAME' or 'FAILED NAME: what is wrong'; the exit status is not 0 where one failed.
 set -u
 cd "$(dirname "${BASH_SOURCE[0]}")/../.." || exit 2
-status=0
+. host/verdict.sh
 room=$(mktemp -d) || exit 2
 trap 'rm -rf "$room"' EXIT
 
 ringing=0212340000000700000009
-reject=04123400000007000000090
+reject=0412340000000700000009
 
 # Prints the first word, with a line end, as often as the second says.
 times() { yes "$1" | head -n "$2"; }
@@ -16,24 +15,23 @@ times() { yes "$1" | head -n "$2"; }
 # The program on its own, fed from standard input.
 answer() { bash host/program.sh lines; }
 
-# One case: the program must write exactly $room/wanted on the input $room/given.
-case_of() {
-    answer <"$room/given" >"$room/wrote" 2>"$room/said"
-    judge "$1"
+# One case: a run that ended with the status of the second word wrote exactly $room/wanted, and said on standard error just the third word.
+judge() {
+    local wrong=''
+    [ "$2" -eq 0 ] || wrong="status $2"
+    cmp -s "$room/wrote" "$room/wanted" || wrong="$wrong $(cmp "$room/wrote" "$room/wanted" 2>&1 | sed "s|$room/||g")"
+    [ "$(cat "$room/said")" = "${3-}" ] || wrong="$wrong said: $(head -n 1 "$room/said")"
+    verdict "$1" "$wrong"
 }
 
-# Holds $room/wrote to $room/wanted; nothing may be said on standard error.
-judge() {
-    if [ -s "$room/said" ]; then
-        echo "FAILED $1: $(head -n 1 "$room/said")"
-        status=1
-    elif cmp -s "$room/wrote" "$room/wanted"; then
-        echo "ok $1"
-    else
-        echo "FAILED $1: $(cmp "$room/wrote" "$room/wanted" 2>&1 | sed "s|$room/||g")"
-        status=1
-    fi
+# One case: the program, on the input $room/given.
+case_of() {
+    answer <"$room/given" >"$room/wrote" 2>"$room/said"
+    judge "$1" $?
 }
+
+# Built ahead of the cases, so that none of them sees it being built.
+answer </dev/null >/dev/null 2>&1
 
 # ---- the ends of the input
 
@@ -42,7 +40,7 @@ judge() {
 case_of "no input gives no output"
 
 # 2,832 lines of 23 bytes and 16 of 25 make 65,536 bytes
-{ times $ringing 2832 && times ${reject}2 16; } >"$room/full"
+{ times $ringing 2832 && times ${reject}02 16; } >"$room/full"
 cp "$room/full" "$room/given"
 cp "$room/full" "$room/wanted"
 case_of "65,536 bytes of readable lines come back whole"
@@ -58,9 +56,12 @@ times $ringing 3000 >"$room/given"
 { times $ringing 2849 && echo '!1'; } >"$room/wanted"
 case_of "a line that the cut at 65,536 bytes leaves unended is answered !1"
 
+yes $ringing | answer >"$room/wrote" 2>"$room/said"
+judge "input that never ends is answered all the same" "${PIPESTATUS[1]}"
+
 # 2,844 lines of 23 bytes and 5 of 25 make 65,537
-{ times $ringing 2844 && times ${reject}2 5; } >"$room/given"
-{ times $ringing 2844 && times ${reject}2 4 && echo '!1'; } >"$room/wanted"
+{ times $ringing 2844 && times ${reject}02 5; } >"$room/given"
+{ times $ringing 2844 && times ${reject}02 4 && echo '!1'; } >"$room/wanted"
 case_of "a line whose end is byte 65,537 is answered !1"
 
 times '' 65536 >"$room/given"
@@ -74,78 +75,78 @@ case_of "65,536 digits without a line end are one line"
 printf %s $ringing >"$room/given"
 case_of "a line one byte short of its end is answered !1"
 
-# ---- how it is fed
+# ---- how it is fed, and who reads
 
-{ times $ringing 1 && times ${reject}5 1 && times $ringing 1; } >"$room/whole"
+{ times $ringing 1 && times ${reject}05 1 && times $ringing 1; } >"$room/whole"
 { times $ringing 1 && echo '!5' && times $ringing 1; } >"$room/wanted"
 { head -c 10 "$room/whole" && sleep 0.2 && tail -c +11 "$room/whole" | head -c 30 && sleep 0.2 && tail -c +41 "$room/whole"; } |
     answer >"$room/wrote" 2>"$room/said"
-judge "input that comes in pieces is put together"
+judge "input that comes in pieces is put together" "${PIPESTATUS[1]}"
 
 times '' 65536 | answer 2>"$room/said" | (sleep 0.2 && cat) >"$room/wrote"
+ended=${PIPESTATUS[1]}
 times '!3' 65536 >"$room/wanted"
-judge "a slow reader gets all 196,608 bytes of the longest answer"
+judge "a slow reader gets all 196,608 bytes of the longest answer" "$ended"
+
+: >"$room/wrote"
+: >"$room/wanted"
+answer <"$room/whole" >/dev/full 2>"$room/said"
+judge "an answer that cannot be written is named" $? "lines: the answer could not be written"
 
 # ---- the script at the root
 
 sample=samples/night-shift.log
 sed -n '/^```$/,/^```$/p' README.md | sed '1d' | sed '/^```$/,$d' >"$room/wanted"
 ./lines "$sample" >"$room/wrote" 2>"$room/said"
-judge "the README shows what its first command prints"
+judge "the README shows what its first command prints" $?
 
-cp "$room/wrote" "$room/wanted"
 (cd samples && ../lines <"${sample#samples/}") >"$room/wrote" 2>"$room/said"
-judge "standard input is answered as the file is, from any folder"
+judge "standard input is answered as the file is, from any folder" $?
 
 ./lines - <"$sample" >"$room/wrote" 2>"$room/said"
-judge "a - stands for standard input"
+judge "a - stands for standard input" $?
 
-# The script must end with status 2, print nothing, and say one line that holds the second word.
-refuses() {
-    local name=$1 word=$2 ended
-    shift 2
-    ./lines "$@" >"$room/wrote" 2>"$room/said" </dev/null
-    ended=$?
-    if [ $ended -eq 2 ] && [ ! -s "$room/wrote" ] && [ "$(wc -l <"$room/said")" -eq 1 ] && grep -qF -- "$word" "$room/said"; then
-        echo "ok $name"
-    else
-        echo "FAILED $name: status $ended, said: $(head -n 1 "$room/said")"
-        status=1
-    fi
-}
-refuses "a log that is not there is named" "$room/none: no such file" "$room/none"
-refuses "a folder is no log" "$room: is a folder" "$room"
-refuses "two logs are one too many" "usage: lines [LOG]" "$sample" "$sample"
+cp "$sample" "$room/a log"
+./lines "$room/a log" >"$room/wrote" 2>"$room/said"
+judge "a log may have a blank in its name" $?
+
+cp "$room/full" "$room/wanted"
+./lines "$room/full" >"$room/wrote" 2>"$room/said"
+judge "a log of 65,536 bytes is answered whole" $?
 
 { cat "$room/full" && echo; } >"$room/long"
 ./lines "$room/long" >"$room/wrote" 2>"$room/said"
-if cmp -s "$room/wrote" "$room/full" && grep -q 'only its first 65536 bytes are answered' "$room/said"; then
-    echo "ok a log that is cut is answered and named"
-else
-    echo "FAILED a log that is cut is answered and named: said: $(head -n 1 "$room/said")"
-    status=1
-fi
+judge "a longer log is cut, and the cut is named" $? "lines: $room/long: only its first 65536 bytes are answered"
+
+# One case: the script, given the words from the third on, must end with status 2, print nothing, and say just the second word.
+refuses() {
+    local name=$1 line=$2 ended wrong=''
+    shift 2
+    ./lines "$@" >"$room/wrote" 2>"$room/said" </dev/null
+    ended=$?
+    [ $ended -eq 2 ] || wrong="status $ended"
+    [ ! -s "$room/wrote" ] || wrong="$wrong printed: $(head -n 1 "$room/wrote")"
+    [ "$(cat "$room/said")" = "$line" ] || wrong="$wrong said: $(head -n 1 "$room/said")"
+    verdict "$name" "$wrong"
+}
+refuses "a log that is not there is named" "lines: $room/none: no such file" "$room/none"
+refuses "a log without a name is not there" "lines: : no such file" ""
+refuses "a folder is no log" "lines: $room: is a folder" "$room"
+refuses "two logs are one too many" "lines: usage: lines [LOG]" "$sample" "$sample"
+
+./lines --help >"$room/wrote" 2>"$room/said"
+verdict "--help says how to call it" "$(grep -q '^lines \[LOG\]: ' "$room/wrote" || echo "printed: $(head -n 1 "$room/wrote")")"
 
 # ---- what the stored logs hold
 
-# One case: it passes where its second word, what was not found, is empty.
-holds() {
-    if [ -z "$2" ]; then
-        echo "ok $1"
-    else
-        echo "FAILED $1: not found:$2"
-        status=1
-    fi
-}
-
 ./lines "$sample" >"$room/sample"
 missing=''
-for answer in crates/lines/stdout "$room/sample"; do
+for stored in crates/lines/stdout "$room/sample"; do
     for start in 01 02 03 04 05 06 07 08 09 '!1' '!2' '!3' '!4' '!5'; do
-        grep -q "^$start" "$answer" || missing="$missing $start"
+        grep -q "^$start" "$stored" || missing="$missing $start"
     done
 done
-holds "the stored log and the sample have every kind and every number 1 to 5" "$missing"
+verdict "the stored log and the sample have every kind and every number 1 to 5" "${missing:+not found:$missing}"
 
 missing=''
 stored=crates/lines/stdin
@@ -154,6 +155,6 @@ for line in '0800100000000302001e0000000500000007000003e8000003e80000000701' '02
 done
 [ "$(tr -d '\0' <$stored | wc -c)" -lt "$(wc -c <$stored)" ] || missing="$missing NUL"
 [ -n "$(tail -c 1 $stored | tr -d '\n')" ] || missing="$missing an unended tail"
-holds "the stored log has an announcement, a capital digit, an empty line, CR LF, NUL and an unended tail" "$missing"
+verdict "the stored log has an announcement, a capital digit, an empty line, CR LF, NUL and an unended tail" "${missing:+not found:$missing}"
 
 exit $status

@@ -7,7 +7,7 @@ use Rattle.frame.specs.Lent.{told, lentAfter}
 use Rattle.frame.specs.Writing.{writeNumber, writtenOf, bufferOf}
 use Rattle.frame.specs.declared.Media.{Media}
 use Rattle.frame.specs.declared.Message.{Message}
-use Rattle.log.specs.Answer.{answerOf, answerNumber, answeredOf, answerBuffer}
+use Rattle.log.specs.Answer.{answerOf, answerNumber, answerTold, answerBuffer}
 use Rattle.demands.specs.NothingChanges.{NothingChanges}
 
 -- whatever the number and the text are
@@ -20,6 +20,6 @@ unfolding writtenOf bufferOf
 write-nothing-changes m media out = lent-nothing-changes (writeNumber m media out) (lineOf m media) out
 
 -- the answer to a log
-pub answer-nothing-changes : (log out : List ℕ) → NothingChanges (answerOf log) (answeredOf log out) out (answerBuffer log out)
-unfolding answeredOf answerBuffer
+pub answer-nothing-changes : (log out : List ℕ) → NothingChanges (answerOf log) (answerTold log out) out (answerBuffer log out)
+unfolding answerTold answerBuffer
 answer-nothing-changes log out = lent-nothing-changes (answerNumber log out) (answerOf log) out

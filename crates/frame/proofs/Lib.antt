@@ -4,9 +4,9 @@ pub mod Hex
 pub mod Judged
 pub mod MediaDigits
 pub mod Accepted
-pub mod LineNumbers
 pub mod Frames
 pub mod ReadsItsLine
 pub mod OnlyLine
+pub mod LineNumbers
 pub mod Longest
 pub mod Stores

@@ -19,6 +19,6 @@ told number text = record { number = number; length = cond (eqb number 0) (lengt
 abbrev pub lentAfter : ℕ → List ℕ → List ℕ → List ℕ
 lentAfter number text out = cond (eqb number 0) (atFront text out) out
 
--- n counts bytes at the front. The second part follows from the first; both are what a caller needs to cut there
-abbrev pub Front : ℕ → List ℕ → Type 0
-Front n out = (n ≤ length out) × (n ≡ length (take n out))
+-- a list can be cut behind its first n bytes; the second part follows from the first, and a caller who cuts there is asked for both
+abbrev pub CutPlace : ℕ → List ℕ → Type 0
+CutPlace n out = (n ≤ length out) × (n ≡ length (take n out))

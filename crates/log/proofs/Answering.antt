@@ -69,8 +69,8 @@ module _ (log lent out : List ℕ) (w at n : ℕ) (far : SoFar log lent out w at
       )
 
 -- at the end of the log its whole answer is written
-pub answered : (log lent out : List ℕ) (w at : ℕ) → SoFar log lent out w at → length log ≤ at → (w ≡ length (answerOf log)) × (out ≡ atFront (answerOf log) lent)
-answered log lent out w at far over =
+pub all-answered : (log lent out : List ℕ) (w at : ℕ) → SoFar log lent out w at → length log ≤ at → (w ≡ length (answerOf log)) × (out ≡ atFront (answerOf log) lent)
+all-answered log lent out w at far over =
     let front : take w out ≡ answerOf log =
     sym (append-nil (take w out)) ∙ ap (λ (s : List ℕ). take w out ++ s) (sym (none-left log at over)) ∙ far .3 in
     let long : w ≡ length (answerOf log) = sym (length-take-le w out (far .2)) ∙ ap length front in

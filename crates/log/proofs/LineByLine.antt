@@ -2,21 +2,19 @@
 use mathlib.Core.Path.{_≡_, refl, sym, ap, ap₂, _∙_}
 use mathlib.Core.List.{List, [], _∷_, flatten, map}
 use mathlib.Core.Bool.{Bool, true, false, not, cond, false≢true}
-use Prim.Native.Nat.{ℕ, zero, suc, _*_, _-_, _<_, _≤_}
-use native.Mathlib.Nat.{le-of-suc-le-suc}
+use Prim.Native.Nat.{ℕ, suc, _*_, _-_, _≤_}
 use native.Mathlib.Omega.{arith}
 use lib.Dec.{eqb}
 use lib.ListN.{length, getD, length-append}
 use borrow.Author.Tests.{eq-eqb, ne-eqb, not-true}
 use Rattle.frame.specs.Layout.{lineOf}
-use Rattle.frame.specs.Line.{numberOf, reading, readLine, lineNumber}
+use Rattle.frame.specs.Line.{unended, reading, readLine, lineNumber}
 use Rattle.frame.specs.declared.Media.{Media}
 use Rattle.frame.specs.declared.Message.{Message}
-use Rattle.frame.specs.declared.Reading.{Reading}
 use Rattle.frame.proofs.Laws.{and-split, or-right}
-use Rattle.frame.proofs.LineNumbers.{unended-number}
-use Rattle.frame.proofs.OnlyLine.{line-is-the-only-one, number-read}
-use Rattle.log.specs.Lines.{isEnd, linesOf, joined, isUnended, cutAtEnds}
+use Rattle.frame.proofs.LineNumbers.{unended-number, read-number}
+use Rattle.frame.proofs.OnlyLine.{line-is-the-only-one}
+use Rattle.log.specs.Lines.{isEnd, linesOf, joined, unendedPiece, cutAtEnds}
 use Rattle.log.specs.Answer.{refusalLine, answerTo, answerOf, AllReadable}
 use Rattle.log.proofs.Lines.{lines-joined, lines-cut-at-ends, cut-first}
 
@@ -29,34 +27,30 @@ answer-readable line e = rw (eq-eqb _ _ e)
 
 -- and it is the line that the writer writes for what the reader reads
 pub answer-written : (line : List ℕ) (m : Message) (media : Media) → readLine line ≡ reading m media → answerTo line ≡ lineOf m media
-answer-written line m media e =
-    answer-readable line (sym (number-read line) ∙ ap (λ (r : Reading). numberOf (r .read)) e) ∙ line-is-the-only-one line m media e .0
+answer-written line m media e = answer-readable line (read-number line m media e) ∙ line-is-the-only-one line m media e .0
 
 -- any other gives its number
 pub answer-refused : (line : List ℕ) → (lineNumber line ≡ 0 → ⊥) → answerTo line ≡ refusalLine (lineNumber line)
 unfolding answerTo
 answer-refused line f = rw (ne-eqb _ _ f)
 
--- no byte of an unended piece is 0A
-unended-byte : (piece : List ℕ) (i : ℕ) → i < length piece → isUnended piece ≡ true → isEnd (getD piece i 0) ≡ false
-unended-byte [] i k h = absurd (false≢true h)
-unended-byte (x ∷ []) zero k h = not-true _ h
-unended-byte (x ∷ []) (suc i) k h = let z : ⊥ = omega arith in absurd z
-unended-byte (x ∷ y ∷ piece) zero k h = not-true _ (and-split (not (isEnd x)) (isUnended (y ∷ piece)) h .0)
-unended-byte (x ∷ y ∷ piece) (suc i) k h =
-    unended-byte (y ∷ piece) i (le-of-suc-le-suc k) (and-split (not (isEnd x)) (isUnended (y ∷ piece)) h .1)
+-- an unended piece does not end
+piece-unended : (piece : List ℕ) → unendedPiece piece ≡ true → unended piece ≡ true
+piece-unended piece h = or-right (eqb (length piece) 0) (ap not (last piece h))
+  where
+    last : (l : List ℕ) → unendedPiece l ≡ true → isEnd (getD l (length l - 1) 0) ≡ false
+    last [] e = absurd (false≢true e)
+    last (x ∷ []) e = not-true _ e
+    last (x ∷ y ∷ l) e =
+        let k : suc (suc (length l)) - 1 ≡ suc (length l) = omega arith in
+        let j : suc (length l) - 1 ≡ length l = omega arith in
+        let rest = last (y ∷ l) (and-split (not (isEnd x)) (unendedPiece (y ∷ l)) e .1) in
+        ap (λ (n : ℕ). isEnd (getD (x ∷ y ∷ l) n 0)) k ∙ ap (λ (n : ℕ). isEnd (getD (y ∷ l) n 0)) (sym j) ∙ rest
 
--- it has a byte
-unended-some : (piece : List ℕ) → isUnended piece ≡ true → 1 ≤ length piece
-unended-some [] h = absurd (false≢true h)
-unended-some (x ∷ piece) h = omega arith
-
--- an unended piece gives 1
-pub answer-unended : (piece : List ℕ) → isUnended piece ≡ true → answerTo piece ≡ refusalLine 1
+-- so it gives 1
+pub answer-unended : (piece : List ℕ) → unendedPiece piece ≡ true → answerTo piece ≡ refusalLine 1
 answer-unended piece h =
-    let some = unended-some piece h in
-    let last : not (isEnd (getD piece (length piece - 1) 0)) ≡ true = ap not (unended-byte piece (length piece - 1) (omega arith) h) in
-    let e = unended-number piece (or-right (eqb (length piece) 0) last) in
+    let e = unended-number piece (piece-unended piece h) in
     answer-refused piece (λ z. let w : ⊥ = omega arith in absurd w) ∙ ap refusalLine e
 
 -- an answer is at most three times as long as its line

@@ -1,5 +1,5 @@
--- The lines of a log: joined they are the log, the first comes off its front, only the last may be unended, and no other lines make up
--- the log. Assumes nothing.
+-- The lines of a log: joined they are the log, the first comes off its front, none but the last can lack its end, and no other lines make
+-- up the log. Assumes nothing.
 use mathlib.Core.Path.{_≡_, refl, sym, ap, _∙_}
 use mathlib.Core.Logic.{⊎-elim}
 use mathlib.Core.List.{List, [], _∷_, _++_, append-nil, flatten}
@@ -10,9 +10,9 @@ use native.Mathlib.Omega.{arith}
 use lib.ListN.{length, take, drop, getD, length-append, drop-of-length-le}
 use lib.Seq.{length-take-le, take-append-seam, drop-append-seam, drop-cons}
 use borrow.Author.Tests.{not-true}
-use Rattle.frame.specs.Lent.{Front}
+use Rattle.frame.specs.Lent.{CutPlace}
 use Rattle.frame.proofs.Laws.{and-split, or-cases, or-none, or-split}
-use Rattle.log.specs.Lines.{isEnd, ahead, linesOf, joined, firstLine, afterFirst, endWithin, isEnded, isUnended, cutAtEnds}
+use Rattle.log.specs.Lines.{isEnd, ahead, linesOf, joined, firstLine, afterFirst, endWithin, endedLine, unendedPiece, cutAtEnds}
 
 -- ---- joined
 
@@ -82,9 +82,9 @@ unfolding firstLine
 first-some [] h = h
 first-some (x ∷ log) h = omega arith
 
--- a count that is not over the length counts bytes at the front
-pub front : (n : ℕ) (l : List ℕ) → n ≤ length l → Front n l
-front n l h = (h, sym (length-take-le n l h))
+-- a list can be cut wherever it has so many bytes
+pub cut-place : (n : ℕ) (l : List ℕ) → n ≤ length l → CutPlace n l
+cut-place n l h = (h, sym (length-take-le n l h))
 
 -- ---- byte by byte
 
@@ -121,7 +121,7 @@ first-skips (suc n) log h e =
     let last = first-more log n (omega arith) (rw zero-add at (p .1)) in
     omega (arith, before, last)
 
--- ---- only the last may be unended, and no other lines make up the log
+-- ---- none but the last can lack its end, and no other lines make up the log
 
 -- a byte ahead of lines that are cut at their ends
 ahead-cut : (x : ℕ) → isEnd x ≡ false → (lines : List (List ℕ)) → cutAtEnds lines ≡ true → cutAtEnds (ahead x lines) ≡ true
@@ -132,7 +132,7 @@ ahead-cut x e ((y ∷ l) ∷ []) h = rw e h
 ahead-cut x e ((y ∷ l) ∷ next ∷ lines) h = rw e h
 
 -- an ended line ahead of lines that are cut at their ends
-ended-cut : (l : List ℕ) → isEnded l ≡ true → (lines : List (List ℕ)) → cutAtEnds lines ≡ true → cutAtEnds (l ∷ lines) ≡ true
+pub ended-cut : (l : List ℕ) → endedLine l ≡ true → (lines : List (List ℕ)) → cutAtEnds lines ≡ true → cutAtEnds (l ∷ lines) ≡ true
 ended-cut l e [] h = rw e
 ended-cut l e (next ∷ lines) h = rw e h
 
@@ -147,27 +147,23 @@ lines-cut-at-ends (x ∷ log) = go (isEnd x) refl (lines-cut-at-ends log)
     go false e h = ahead-cut x e (linesOf log) h
 
 -- an ended line ahead of a log is its first line
-pub ended-first : (line log : List ℕ) → isEnded line ≡ true → linesOf (line ++ log) ≡ line ∷ linesOf log
+pub ended-first : (line log : List ℕ) → endedLine line ≡ true → linesOf (line ++ log) ≡ line ∷ linesOf log
 unfolding linesOf
 ended-first [] log h = absurd (false≢true h)
 ended-first (x ∷ []) log h = rw h
 ended-first (x ∷ y ∷ line) log h =
-    let p = and-split (not (isEnd x)) (isEnded (y ∷ line)) h in
+    let p = and-split (not (isEnd x)) (endedLine (y ∷ line)) h in
     let e : isEnd x ≡ false = not-true _ (p .0) in
     ap (λ (b : Bool). cond b ((x ∷ []) ∷ linesOf (y ∷ line ++ log)) (ahead x (linesOf (y ∷ line ++ log)))) e
     ∙ ap (ahead x) (ended-first (y ∷ line) log (p .1))
 
 -- an unended piece is one line
-pub unended-alone : (piece : List ℕ) → isUnended piece ≡ true → linesOf piece ≡ piece ∷ []
+pub unended-alone : (piece : List ℕ) → unendedPiece piece ≡ true → linesOf piece ≡ piece ∷ []
 unfolding linesOf
 unended-alone [] h = absurd (false≢true h)
-unended-alone (x ∷ []) h = go (isEnd x)
-  where
-    go : (b : Bool) → cond b ((x ∷ []) ∷ []) ((x ∷ []) ∷ []) ≡ (x ∷ []) ∷ []
-    go true = refl
-    go false = refl
+unended-alone (x ∷ []) h = let e : isEnd x ≡ false = not-true _ h in rw e
 unended-alone (x ∷ y ∷ piece) h =
-    let p = and-split (not (isEnd x)) (isUnended (y ∷ piece)) h in
+    let p = and-split (not (isEnd x)) (unendedPiece (y ∷ piece)) h in
     let e : isEnd x ≡ false = not-true _ (p .0) in
     ap (λ (b : Bool). cond b ((x ∷ []) ∷ linesOf (y ∷ piece)) (ahead x (linesOf (y ∷ piece)))) e
     ∙ ap (ahead x) (unended-alone (y ∷ piece) (p .1))
@@ -177,9 +173,9 @@ pub lines-are-the-only-ones : (lines : List (List ℕ)) → cutAtEnds lines ≡ 
 unfolding linesOf flatten
 lines-are-the-only-ones [] h = refl
 lines-are-the-only-ones (l ∷ []) h =
-    ⊎-elim (ended-first l []) (λ u. ap linesOf (append-nil l) ∙ unended-alone l u) (or-cases (isEnded l) (isUnended l) h)
+    ⊎-elim (ended-first l []) (λ u. ap linesOf (append-nil l) ∙ unended-alone l u) (or-cases (endedLine l) (unendedPiece l) h)
 lines-are-the-only-ones (l ∷ next ∷ lines) h =
-    let p = and-split (isEnded l) (cutAtEnds (next ∷ lines)) h in
+    let p = and-split (endedLine l) (cutAtEnds (next ∷ lines)) h in
     ended-first l (joined (next ∷ lines)) (p .0) ∙ ap (λ (rest : List (List ℕ)). l ∷ rest) (lines-are-the-only-ones (next ∷ lines) (p .1))
 
 -- where lines are cut at their ends, the first has a byte and the others are so too
@@ -187,4 +183,4 @@ pub cut-first : (l : List ℕ) (lines : List (List ℕ)) → cutAtEnds (l ∷ li
 cut-first [] [] h = absurd (false≢true h)
 cut-first [] (next ∷ lines) h = absurd (false≢true h)
 cut-first (x ∷ l) [] h = (omega arith, refl)
-cut-first (x ∷ l) (next ∷ lines) h = (omega arith, and-split (isEnded (x ∷ l)) (cutAtEnds (next ∷ lines)) h .1)
+cut-first (x ∷ l) (next ∷ lines) h = (omega arith, and-split (endedLine (x ∷ l)) (cutAtEnds (next ∷ lines)) h .1)

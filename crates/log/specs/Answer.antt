@@ -43,8 +43,8 @@ unfoldable pub answerNumber : List ℕ → List ℕ → ℕ
 answerNumber log out = firstGiven ((6, ltb (length out) (length (answerOf log))) ∷ [])
 
 -- the number, and the answer's length where it is 0
-unfoldable pub answeredOf : List ℕ → List ℕ → Written
-answeredOf log out = told (answerNumber log out) (answerOf log)
+unfoldable pub answerTold : List ℕ → List ℕ → Written
+answerTold log out = told (answerNumber log out) (answerOf log)
 
 -- the buffer with the answer at its front, or as it was
 unfoldable pub answerBuffer : List ℕ → List ℕ → List ℕ

@@ -37,32 +37,35 @@ unfoldable pub afterFirst : List ℕ → List ℕ
 afterFirst [] = []
 afterFirst (x ∷ log) = cond (isEnd x) log (afterFirst log)
 
--- a line ends within the n bytes from place `at` on
-abbrev pub endWithin : ℕ → List ℕ → ℕ → Bool
-endWithin zero log at = false
-endWithin (suc n) log at = endWithin n log at || isEnd (getD log (at + n) 0)
-
 -- ---- what makes lines the lines of a log
 
 -- an ended line: its last byte is 0A, and no other byte is
-abbrev pub isEnded : List ℕ → Bool
-isEnded [] = false
-isEnded (x ∷ []) = isEnd x
-isEnded (x ∷ y ∷ line) = not (isEnd x) && isEnded (y ∷ line)
+abbrev pub endedLine : List ℕ → Bool
+endedLine [] = false
+endedLine (x ∷ []) = isEnd x
+endedLine (x ∷ y ∷ line) = not (isEnd x) && endedLine (y ∷ line)
 
 -- an unended piece: one byte or more, and no byte is 0A
-abbrev pub isUnended : List ℕ → Bool
-isUnended [] = false
-isUnended (x ∷ []) = not (isEnd x)
-isUnended (x ∷ y ∷ piece) = not (isEnd x) && isUnended (y ∷ piece)
+abbrev pub unendedPiece : List ℕ → Bool
+unendedPiece [] = false
+unendedPiece (x ∷ []) = not (isEnd x)
+unendedPiece (x ∷ y ∷ piece) = not (isEnd x) && unendedPiece (y ∷ piece)
 
 -- all are ended lines, but the last may be an unended piece
 abbrev pub cutAtEnds : List (List ℕ) → Bool
 cutAtEnds [] = true
-cutAtEnds (l ∷ []) = isEnded l || isUnended l
-cutAtEnds (l ∷ next ∷ lines) = isEnded l && cutAtEnds (next ∷ lines)
+cutAtEnds (l ∷ []) = endedLine l || unendedPiece l
+cutAtEnds (l ∷ next ∷ lines) = endedLine l && cutAtEnds (next ∷ lines)
 
--- all are ended lines: nothing stands behind the last line end
-abbrev pub allEnded : List (List ℕ) → Bool
-allEnded [] = true
-allEnded (l ∷ lines) = isEnded l && allEnded lines
+-- a log without an unended piece: it is empty, or its last byte is 0A
+abbrev pub endsWithEnd : List ℕ → Bool
+endsWithEnd [] = true
+endsWithEnd (x ∷ []) = isEnd x
+endsWithEnd (x ∷ y ∷ log) = endsWithEnd (y ∷ log)
+
+-- ---- what the search for a line end tells
+
+-- a line ends within the n bytes from place `at` on
+abbrev pub endWithin : ℕ → List ℕ → ℕ → Bool
+endWithin zero log at = false
+endWithin (suc n) log at = endWithin n log at || isEnd (getD log (at + n) 0)

@@ -20,8 +20,7 @@ fn end_in_eight(part: &[u8], at: usize) -> bool
         | (part[at + 7] == 0x0a)
 }
 
-// How many bytes at the front, counted in eights, end no line: up to the eight in which one does, or to fewer than
-// eight.
+// A number of bytes at the front in which no line ends, found eight at a time.
 pub(crate) fn eights_without_end(part: &[u8]) -> usize
     ensures { λ r. ⌜ r ≤ length (now (part .entry)) ⌝ }
     ensures { λ r. ⌜ endWithin r (now (part .entry)) 0 ≡ false ⌝ }

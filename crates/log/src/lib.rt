@@ -5,15 +5,15 @@ mod eights;
 use frame::Written;
 ghost use mathlib.Core.Path.{_≡_};
 ghost use lib.ListN.{length};
-ghost use Rattle.frame.specs.Lent.{Front};
+ghost use Rattle.frame.specs.Lent.{CutPlace};
 ghost use Rattle.log.specs.Lines.{firstLine};
-ghost use Rattle.log.specs.Answer.{answeredOf, answerBuffer};
+ghost use Rattle.log.specs.Answer.{answerTold, answerBuffer};
 
 // The length of the first line of a part of a log, its end included; of the whole part where no line ends in it, so 0
 // of an empty part.
 pub fn first_line_length(part: &[u8]) -> usize
     ensures { λ r. ⌜ r ≡ length (firstLine (now (part .entry))) ⌝ }
-    ensures { λ r. ⌜ Front r (now (part .entry)) ⌝ }
+    ensures { λ r. ⌜ CutPlace r (now (part .entry)) ⌝ }
 {
     let mut at = eights::eights_without_end(part);
     while at < part.len() {
@@ -28,9 +28,9 @@ pub fn first_line_length(part: &[u8]) -> usize
 // The answer to a log at the front of a lent buffer: each readable line, and for any other `!`, its number and a
 // line end; 6 where there is no room.
 pub fn answer_log(log: &[u8], out: &mut [u8]) -> Written
-    ensures { λ r. ⌜ r ≡ answeredOf (now (log .entry)) (now (out .entry)) ⌝ }
+    ensures { λ r. ⌜ r ≡ answerTold (now (log .entry)) (now (out .entry)) ⌝ }
     ensures { λ _. ⌜ now (out .exit) ≡ answerBuffer (now (log .entry)) (now (out .entry)) ⌝ }
-    ensures { λ r. ⌜ Front (r .length) (now (out .exit)) ⌝ }
+    ensures { λ r. ⌜ CutPlace (r .length) (now (out .exit)) ⌝ }
 {
     if !answers::has_room(log, out.len()) {
         return Written {

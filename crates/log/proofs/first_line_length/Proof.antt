@@ -8,7 +8,7 @@ use native.Mathlib.Omega.{arith}
 use lib.ListN.{length}
 use borrow.Author.Tests.{eq-eqb, ne-eqb}
 use Rattle.log.specs.Lines.{endWithin}
-use Rattle.log.proofs.Lines.{front, first-stop, first-none, end-within-both, first-skips}
+use Rattle.log.proofs.Lines.{cut-place, first-stop, first-none, end-within-both, first-skips}
 use borrow.Author.Needs.{needs}
 use Rattle.log.proofs.first_line_length.Statement.{statement}
 use Rattle.log.proofs.first_line_length.Tie as tie
@@ -24,7 +24,7 @@ returns c =
     let head = c .before .before .before in
     let part = head .before .before .before .args .part .now in
     let passed = first-skips (head .loop .at) part (head .loop .inv .0) (head .loop .inv .1) in
-    (omega (arith, passed, first-stop part (head .loop .at) (omega arith) (eq-eqb _ _ (c .if1 .taken))), front (head .loop .at + 1) part (omega arith))
+    (omega (arith, passed, first-stop part (head .loop .at) (omega arith) (eq-eqb _ _ (c .if1 .taken))), cut-place (head .loop .at + 1) part (omega arith))
 
 loop-again : tie.Need-loop-again Inv-loop μ-loop
 loop-again c =
@@ -37,7 +37,7 @@ returns-2 c =
     let head = c .before in
     let part = head .before .before .before .args .part .now in
     let passed = first-skips (head .loop .at) part (head .loop .inv .0) (head .loop .inv .1) in
-    (omega (arith, passed, first-none part (head .loop .at) (omega arith)), front (head .loop .at) part (omega arith))
+    (omega (arith, passed, first-none part (head .loop .at) (omega arith)), cut-place (head .loop .at) part (omega arith))
 
 pub first-line-length-spec : {M : Type 1} → statement M
 first-line-length-spec =

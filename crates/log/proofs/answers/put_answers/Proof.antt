@@ -4,7 +4,7 @@ use native.Mathlib.Omega.{arith}
 use lib.ListN.{length, take}
 use Rattle.log.specs.Answer.{answerTo}
 use Rattle.log.proofs.Turns.{partFrom, Turn, turn}
-use Rattle.log.proofs.Answering.{SoFar, room-part, further, answered}
+use Rattle.log.proofs.Answering.{SoFar, room-part, further, all-answered}
 use borrow.Author.Needs.{needs}
 use Rattle.log.proofs.answers.put_answers.Statement.{statement}
 use Rattle.log.proofs.answers.put_answers.Tie as tie
@@ -41,7 +41,7 @@ returns : tie.Need-returns Inv-loop μ-loop
 returns c =
     let head = c .before in
     let start = head .before .before .before in
-    answered (start .args .log .now) (start .args .out .now) (head .loop .out) (head .loop .written) (head .loop .at) (head .loop .inv) (c .loop-test .left)
+    all-answered (start .args .log .now) (start .args .out .now) (head .loop .out) (head .loop .written) (head .loop .at) (head .loop .inv) (c .loop-test .left)
 
 pub put-answers-spec : {M : Type 1} → statement M
 put-answers-spec =

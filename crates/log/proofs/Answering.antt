@@ -1,21 +1,20 @@
 -- A log that is being answered: what one turn adds, and what stands in the buffer so far. Assumes nothing.
 use mathlib.Core.Path.{_≡_, sym, ap, ap₂, _∙_}
-use mathlib.Core.List.{List, [], _++_, append-assoc, append-nil, flatten, map}
+use mathlib.Core.List.{List, [], _++_, append-assoc, append-nil, flatten}
 use Prim.Native.Nat.{ℕ, _+_, _-_, _≤_}
 use native.Mathlib.Omega.{arith}
 use lib.ListN.{length, take, drop, length-append, length-drop, drop-of-length-le, take-append-drop}
 use lib.Seq.{drop-drop, length-take-le}
 use borrow.Rule.Slice.PartMut.{putMid}
 use Rattle.frame.specs.Lent.{atFront}
-use Rattle.log.specs.Lines.{joined}
-use Rattle.log.specs.Answer.{answerTo, answerOf}
+use Rattle.log.specs.Answer.{answerTo, answersTo, answerOf}
 use Rattle.log.proofs.LineByLine.{answer-none}
 use Rattle.log.proofs.Turns.{partFrom, part-from, Turn, put-front, put-behind, put-length}
 
 -- what is left is answered by the answer to the line of the turn, then by that to the rest
 turn-answer : {log : List ℕ} {at n : ℕ} → Turn log at n → answerOf (drop at log) ≡ answerTo (take n (partFrom log at)) ++ answerOf (drop (at + n) log)
 unfolding answerOf flatten
-turn-answer t = ap (λ (lines : List (List ℕ)). joined (map answerTo lines)) (t .lines)
+turn-answer t = ap answersTo (t .lines)
 
 -- and so their lengths
 pub turn-length : {log : List ℕ} {at n : ℕ} → Turn log at n

@@ -15,7 +15,7 @@ use Rattle.frame.proofs.Laws.{and-split, or-right}
 use Rattle.frame.proofs.LineNumbers.{unended-number, read-number}
 use Rattle.frame.proofs.OnlyLine.{line-is-the-only-one}
 use Rattle.log.specs.Lines.{isEnd, linesOf, joined, unendedPiece, cutAtEnds}
-use Rattle.log.specs.Answer.{refusalLine, answerTo, answerOf, AllReadable}
+use Rattle.log.specs.Answer.{refusalLine, answerTo, answersTo, answerOf, AllReadable}
 use Rattle.log.proofs.Lines.{lines-joined, lines-cut-at-ends, cut-first}
 
 -- ---- a line
@@ -70,14 +70,14 @@ unfolding answerOf linesOf flatten
 answer-none = refl
 
 -- the answers to lines are at most three times as long as the lines
-answers-within : (lines : List (List ℕ)) → cutAtEnds lines ≡ true → length (joined (map answerTo lines)) ≤ 3 * length (joined lines)
+answers-within : (lines : List (List ℕ)) → cutAtEnds lines ≡ true → length (answersTo lines) ≤ 3 * length (joined lines)
 unfolding flatten
 answers-within [] h = omega arith
 answers-within (l ∷ lines) h =
     let p = cut-first l lines h in
     let first = line-answer-within l (p .0) in
     let others = answers-within lines (p .1) in
-    rw (length-append (answerTo l) (joined (map answerTo lines)), length-append l (joined lines)) (omega (arith, first, others))
+    rw (length-append (answerTo l) (answersTo lines), length-append l (joined lines)) (omega (arith, first, others))
 
 -- the answer is at most three times as long as the log
 pub answer-within : (log : List ℕ) → length (answerOf log) ≤ 3 * length log

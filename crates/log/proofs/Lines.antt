@@ -12,7 +12,7 @@ use lib.Seq.{length-take-le, take-append-seam, drop-append-seam, drop-cons}
 use borrow.Author.Tests.{not-true}
 use Rattle.frame.specs.Lent.{CutPlace}
 use Rattle.frame.proofs.Laws.{and-split, or-cases, or-none, or-split}
-use Rattle.log.specs.Lines.{isEnd, ahead, linesOf, joined, firstLine, afterFirst, endWithin, endedLine, unendedPiece, cutAtEnds}
+use Rattle.log.specs.Lines.{isEnd, ahead, linesOf, joined, firstLine, afterFirst, endWithin, WithoutEnd, endedLine, unendedPiece, cutAtEnds}
 
 -- ---- joined
 
@@ -105,20 +105,23 @@ unfolding firstLine
 first-none log at h = rw (drop-of-length-le log h)
 
 -- no line ends within n bytes and within the m that follow them: none ends within them all
-pub end-within-both : (n m : ℕ) (log : List ℕ) → endWithin n log 0 ≡ false → endWithin m log n ≡ false → endWithin (n + m) log 0 ≡ false
-end-within-both n zero log h k = rw add-zero h
-end-within-both n (suc m) log h k =
+without-more : (n m : ℕ) (log : List ℕ) → endWithin n log 0 ≡ false → endWithin m log n ≡ false → endWithin (n + m) log 0 ≡ false
+without-more n zero log h k = rw add-zero h
+without-more n (suc m) log h k =
     let p = or-split (endWithin m log n) (isEnd (getD log (n + m) 0)) k in
-    rw (add-suc, zero-add) (or-none (endWithin (n + m) log 0) (end-within-both n m log h (p .0)) (p .1))
+    rw (add-suc, zero-add) (or-none (endWithin (n + m) log 0) (without-more n m log h (p .0)) (p .1))
+
+-- where the m bytes are there
+pub passed-more : (n m : ℕ) (log : List ℕ) → WithoutEnd n log → n + m ≤ length log → endWithin m log n ≡ false → WithoutEnd (n + m) log
+passed-more n m log h r k = (r, without-more n m log (h .1) k)
 
 -- n bytes in which no line ends make the first line n longer
-pub first-skips : (n : ℕ) (log : List ℕ) → n ≤ length log → endWithin n log 0 ≡ false
-    → length (firstLine log) ≡ n + length (firstLine (drop n log))
-first-skips zero log h e = rw zero-add
-first-skips (suc n) log h e =
-    let p = or-split (endWithin n log 0) (isEnd (getD log (0 + n) 0)) e in
-    let before = first-skips n log (omega arith) (p .0) in
-    let last = first-more log n (omega arith) (rw zero-add at (p .1)) in
+pub first-skips : (n : ℕ) (log : List ℕ) → WithoutEnd n log → length (firstLine log) ≡ n + length (firstLine (drop n log))
+first-skips zero log h = rw zero-add
+first-skips (suc n) log h =
+    let p = or-split (endWithin n log 0) (isEnd (getD log (0 + n) 0)) (h .1) in
+    let before = first-skips n log (omega (arith, h .0), p .0) in
+    let last = first-more log n (omega (arith, h .0)) (rw zero-add at (p .1)) in
     omega (arith, before, last)
 
 -- ---- none but the last can lack its end, and no other lines make up the log

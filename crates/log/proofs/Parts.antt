@@ -11,7 +11,7 @@ use borrow.Author.Tests.{eq-eqb, ne-eqb, eqb-true}
 use Rattle.frame.specs.Line.{lineNumber}
 use Rattle.frame.proofs.LineNumbers.{lone-end-number, readable-bytes}
 use Rattle.log.specs.Lines.{isEnd, ahead, linesOf, joined, endedLine, unendedPiece, cutAtEnds, endsWithEnd}
-use Rattle.log.specs.Answer.{refusalLine, answerTo, answerOf}
+use Rattle.log.specs.Answer.{refusalLine, answerTo, answersTo, answerOf}
 use Rattle.log.proofs.Lines.{lines-first, ended-cut, unended-alone, lines-are-the-only-ones}
 use Rattle.log.proofs.LineByLine.{answer-none, answer-unended}
 
@@ -34,25 +34,25 @@ lines-parts (x ∷ y ∷ first) rest h = go (isEnd x) (lines-parts (y ∷ first)
     go false e = ap (ahead x) e ∙ ahead-more (linesOf (y ∷ first)) (linesOf rest) _ _ (lines-first (y ∷ first) (omega arith))
 
 -- the answers to lines, then the answers to more
-answers-parts : (lines more : List (List ℕ)) → joined (map answerTo (lines ++ more)) ≡ joined (map answerTo lines) ++ joined (map answerTo more)
+answers-parts : (lines more : List (List ℕ)) → answersTo (lines ++ more) ≡ answersTo lines ++ answersTo more
 unfolding flatten
 answers-parts [] more = refl
 answers-parts (l ∷ lines) more =
     ap (λ (s : List ℕ). answerTo l ++ s) (answers-parts lines more)
-    ∙ sym (append-assoc (answerTo l) (joined (map answerTo lines)) (joined (map answerTo more)))
+    ∙ sym (append-assoc (answerTo l) (answersTo lines) (answersTo more))
 
 -- so the parts of a log may be answered one by one
 pub answer-parts : (first rest : List ℕ) → endsWithEnd first ≡ true → answerOf (first ++ rest) ≡ answerOf first ++ answerOf rest
 unfolding answerOf
 answer-parts first rest h =
-    ap (λ (lines : List (List ℕ)). joined (map answerTo lines)) (lines-parts first rest h) ∙ answers-parts (linesOf first) (linesOf rest)
+    ap answersTo (lines-parts first rest h) ∙ answers-parts (linesOf first) (linesOf rest)
 
 -- and an unended piece at the end of a log gives 1
 pub answer-tail : (first piece : List ℕ) → endsWithEnd first ≡ true → unendedPiece piece ≡ true → answerOf (first ++ piece) ≡ answerOf first ++ refusalLine 1
 unfolding answerOf flatten
 answer-tail first piece h u =
     answer-parts first piece h
-    ∙ ap (λ (s : List ℕ). answerOf first ++ s) (ap (λ (lines : List (List ℕ)). joined (map answerTo lines)) (unended-alone piece u) ∙ append-nil (answerTo piece) ∙ answer-unended piece u)
+    ∙ ap (λ (s : List ℕ). answerOf first ++ s) (ap answersTo (unended-alone piece u) ∙ append-nil (answerTo piece) ∙ answer-unended piece u)
 
 -- a 0A alone gives 3
 answer-line-end : answerOf (0x0a ∷ []) ≡ refusalLine 3

@@ -27,9 +27,13 @@ refusalLine n = mark ∷ decimal n ∷ 0x0a ∷ []
 unfoldable pub answerTo : List ℕ → List ℕ
 answerTo line = cond (eqb (lineNumber line) 0) line (refusalLine (lineNumber line))
 
--- the answer to a log: the answers to its lines, one after the other
+-- the answers to lines, one after the other
+abbrev pub answersTo : List (List ℕ) → List ℕ
+answersTo lines = joined (map answerTo lines)
+
+-- the answer to a log: the answers to its lines
 unfoldable pub answerOf : List ℕ → List ℕ
-answerOf log = joined (map answerTo (linesOf log))
+answerOf log = answersTo (linesOf log)
 
 -- every line is readable
 abbrev pub AllReadable : List (List ℕ) → Type 0

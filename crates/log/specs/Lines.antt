@@ -1,8 +1,9 @@
 -- A log as lines: each ends with its 0A, and what stands behind the last 0A is one line more. Assumes nothing.
-use Prim.Native.Nat.{ℕ, zero, suc, _+_}
+use Prim.Native.Nat.{ℕ, zero, suc, _+_, _≤_}
+use mathlib.Core.Path.{_≡_}
 use mathlib.Core.List.{List, [], _∷_, flatten}
 use mathlib.Core.Bool.{Bool, true, false, not, cond, _&&_, _||_}
-use lib.ListN.{getD}
+use lib.ListN.{length, getD}
 use lib.Dec.{eqb}
 
 -- the byte that ends a line
@@ -69,3 +70,7 @@ endsWithEnd (x ∷ y ∷ log) = endsWithEnd (y ∷ log)
 abbrev pub endWithin : ℕ → List ℕ → ℕ → Bool
 endWithin zero log at = false
 endWithin (suc n) log at = endWithin n log at || isEnd (getD log (at + n) 0)
+
+-- no line ends within the first n bytes, and so many there are
+abbrev pub WithoutEnd : ℕ → List ℕ → Type 0
+WithoutEnd n log = (n ≤ length log) × (endWithin n log 0 ≡ false)

@@ -1,9 +1,8 @@
 // Bytes looked at eight at a time.
 ghost use mathlib.Core.Path.{_≡_};
 ghost use Prim.Native.Nat.{_+_, _≤_};
-ghost use mathlib.Core.Bool.{false};
 ghost use lib.ListN.{length};
-ghost use Rattle.log.specs.Lines.{endWithin};
+ghost use Rattle.log.specs.Lines.{endWithin, WithoutEnd};
 
 // Whether one of the eight bytes from place at on ends a line.
 fn end_in_eight(part: &[u8], at: usize) -> bool
@@ -22,8 +21,7 @@ fn end_in_eight(part: &[u8], at: usize) -> bool
 
 // A number of bytes at the front in which no line ends, found eight at a time.
 pub(crate) fn eights_without_end(part: &[u8]) -> usize
-    ensures { λ r. ⌜ r ≤ length (now (part .entry)) ⌝ }
-    ensures { λ r. ⌜ endWithin r (now (part .entry)) 0 ≡ false ⌝ }
+    ensures { λ r. ⌜ WithoutEnd r (now (part .entry)) ⌝ }
 {
     let mut at = 0;
     while 8 <= part.len() - at {

@@ -1,17 +1,16 @@
 -- `log::eights::eights_without_end` meets its contract: no line ends in the bytes passed. Assumes nothing.
-use mathlib.Core.Path.{_≡_, refl, sym, _∙_}
-use mathlib.Core.Bool.{false}
-use Prim.Native.Nat.{_-_, _≤_}
+use mathlib.Core.Path.{refl, sym, _∙_}
+use Prim.Native.Nat.{_-_}
 use native.Mathlib.Omega.{arith}
 use lib.ListN.{length}
-use Rattle.log.specs.Lines.{endWithin}
-use Rattle.log.proofs.Lines.{end-within-both}
+use Rattle.log.specs.Lines.{WithoutEnd}
+use Rattle.log.proofs.Lines.{passed-more}
 use borrow.Author.Needs.{needs}
 use Rattle.log.proofs.eights.eights_without_end.Statement.{statement}
 use Rattle.log.proofs.eights.eights_without_end.Tie as tie
 
 abbrev Inv-loop : tie.InvT-loop
-Inv-loop part at₀ at = (at ≤ length part) × (endWithin at part 0 ≡ false)
+Inv-loop part at₀ at = WithoutEnd at part
 
 abbrev μ-loop : tie.MeasureT-loop
 μ-loop part at₀ at = length part - at
@@ -19,7 +18,7 @@ abbrev μ-loop : tie.MeasureT-loop
 loop-again : tie.Need-loop-again Inv-loop μ-loop
 loop-again c =
     let head = c .before .before .before in
-    (omega arith, end-within-both (head .loop .at) 8 _ (head .loop .inv .1) (sym (c .before .end-in-eight .ensures) ∙ c .if1 .left))
+    passed-more (head .loop .at) 8 (head .before .before .args .part .now) (head .loop .inv) (omega arith) (sym (c .before .end-in-eight .ensures) ∙ c .if1 .left)
 
 pub eights-without-end-spec : {M : Type 1} → statement M
 eights-without-end-spec =

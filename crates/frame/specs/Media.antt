@@ -2,6 +2,7 @@
 use Prim.Native.Nat.{ℕ}
 use mathlib.Core.List.{List}
 use mathlib.Core.Bool.{Bool}
+use lib.Dec.{eqb}
 use Rattle.frame.specs.Digits.{four, digitCount, inHex, numberAt}
 use Rattle.frame.specs.Range.{neverZero}
 use Rattle.frame.specs.declared.Media.{Media}
@@ -9,6 +10,10 @@ use Rattle.frame.specs.declared.Media.{Media}
 -- no media, what a kind without media has in its place
 abbrev pub noMedia : Media
 noMedia = record { number = 0 }
+
+-- whether there is none
+abbrev pub mediaNone : Media → Bool
+mediaNone media = eqb (media .number) 0
 
 -- its range: never 0
 abbrev pub mediaGood : Media → Bool

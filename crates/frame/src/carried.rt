@@ -8,8 +8,15 @@ ghost use mathlib.Core.Path.{_≡_};
 ghost use Prim.Native.Nat.{_+_, _<_, _≤_};
 ghost use lib.ListN.{length};
 ghost use lib.Seq.{sets};
-ghost use Rattle.frame.specs.Media.{mediaGood, mediaHex, mediaFrom};
+ghost use Rattle.frame.specs.Media.{mediaNone, mediaGood, mediaHex, mediaFrom};
 ghost use Rattle.frame.specs.Line.{Digital};
+
+// Whether there is none.
+pub fn media_none(media: Media) -> bool
+    ensures { λ r. ⌜ r ≡ mediaNone media ⌝ }
+{
+    media.number == 0
+}
 
 // Whether it is in its range.
 pub(crate) fn media_good(media: Media) -> bool

@@ -1,10 +1,10 @@
 // Lines of the cab terminal: the nine kinds of message, the reader and the writer of their lines.
-mod carried;
+pub mod carried;
 mod digits;
 mod fields;
 mod judge;
 mod put;
-mod range;
+pub mod range;
 mod store;
 
 ghost use mathlib.Core.Path.{_≡_};
@@ -34,6 +34,11 @@ pub struct Setup {
     pub commencement: u8,
     pub call_type: u8,
     pub pck_id: u32,
+}
+
+impl Setup {
+    // The type of a private call.
+    pub const PRIVATE: u8 = 4;
 }
 
 // A group call, all but its media.

@@ -51,7 +51,7 @@ pub(crate) fn type_good(kind: u8, call_type: u8) -> bool
     ensures { λ r. ⌜ r ≡ typeGood kind «call_type» ⌝ }
 {
     if kind == 1 {
-        return call_type == 4;
+        return call_type == Setup::PRIVATE;
     }
     (1 <= call_type) & (call_type <= 3)
 }
@@ -106,7 +106,7 @@ fn acceptance_good(a: Acceptance) -> bool
 }
 
 // Every field of a message is in its range, and so is its media where its kind carries media.
-pub(crate) fn in_range(message: Message, media: Media) -> bool
+pub fn in_range(message: Message, media: Media) -> bool
     ensures { λ r. ⌜ r ≡ inRange message media ⌝ }
 {
     match message {

@@ -1,0 +1,4 @@
+pub mod Settings
+pub mod Request
+pub mod Numbers
+pub mod Sending

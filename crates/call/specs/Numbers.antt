@@ -1,0 +1,75 @@
+-- The numbers that a step gives before it looks for a row, in every state: 7, 9, then 5 or 8. Assumes nothing.
+use Prim.Native.Nat.{ℕ}
+use mathlib.Core.List.{List, [], _∷_}
+use mathlib.Core.Bool.{Bool, true, not, _&&_}
+use lib.Dec.{eqb}
+use Rattle.frame.specs.Number.{firstGiven}
+use Rattle.frame.specs.Range.{timeGood, typeGood}
+use Rattle.frame.specs.Frame.{inRange}
+use Rattle.frame.specs.declared.Media.{Media}
+use Rattle.frame.specs.declared.Message.the-variants.{Announcement}
+use Rattle.call.specs.Settings.{settingsGood}
+use Rattle.call.specs.Request.{asMessage, startRequest, startedGroupCall}
+use Rattle.call.specs.declared.Settings.{Settings}
+use Rattle.call.specs.declared.PrivateStart.{PrivateStart}
+use Rattle.call.specs.declared.PrivateAction.{PrivateAction}
+use Rattle.call.specs.declared.GroupStart.{GroupStart}
+use Rattle.call.specs.declared.GroupRaise.{GroupRaise}
+use Rattle.call.specs.declared.GroupAction.{GroupAction}
+use Rattle.call.specs.declared.Action.{Action}
+use Rattle.call.specs.declared.Event.{Event}
+use Rattle.call.specs.declared.Input.{Input}
+
+-- a message's fields are in range; other events have none
+abbrev pub messageGood : Event → Media → Bool
+messageGood (Event.Action a) media = true
+messageGood (Event.Expiry t) media = true
+messageGood (Event.Message m) media = inRange m media
+
+-- a private start: its arguments have the ranges of the setup request that it makes, and the callee is not own
+abbrev pub privateStartGood : Settings → PrivateStart → Media → Bool
+privateStartGood s x media = inRange (asMessage (startRequest s x)) media && not (eqb (x .callee) (s .«own_user»))
+
+-- the arguments of the private actions
+abbrev pub privateArgumentsGood : Settings → PrivateAction → Media → Bool
+privateArgumentsGood s (PrivateAction.Start x) media = privateStartGood s x media
+privateArgumentsGood s PrivateAction.End media = true
+privateArgumentsGood s PrivateAction.Accept media = true
+privateArgumentsGood s PrivateAction.Reject media = true
+
+-- a group start: its arguments have the ranges of the announcement that it makes
+abbrev pub groupStartGood : Settings → GroupStart → Media → Bool
+groupStartGood s x media = inRange (Announcement (startedGroupCall s x) (x .confirm)) media
+
+-- a raise: its type and its time have the ranges of an announcement's
+abbrev pub raiseGood : GroupRaise → Bool
+raiseGood x = typeGood 8 (x .«call_type») && timeGood (x .now)
+
+-- the arguments of the group actions
+abbrev pub groupArgumentsGood : Settings → GroupAction → Media → Bool
+groupArgumentsGood s (GroupAction.Start x) media = groupStartGood s x media
+groupArgumentsGood s GroupAction.Accept media = true
+groupArgumentsGood s GroupAction.Reject media = true
+groupArgumentsGood s GroupAction.Leave media = true
+groupArgumentsGood s (GroupAction.Raise x) media = raiseGood x
+
+-- of both machines
+abbrev pub actionGood : Settings → Action → Media → Bool
+actionGood s (Action.Private a) media = privateArgumentsGood s a media
+actionGood s (Action.Group a) media = groupArgumentsGood s a media
+
+-- an action's arguments are in range; other events have none
+abbrev pub argumentsGood : Settings → Event → Media → Bool
+argumentsGood s (Event.Action a) media = actionGood s a media
+argumentsGood s (Event.Expiry t) media = true
+argumentsGood s (Event.Message m) media = true
+
+-- the tests of a step before it looks for a row, in their order: a setting, the record, a field of a message, an argument of an action
+abbrev pub testsBeforeRow : Settings → Bool → Input → List (ℕ × Bool)
+testsBeforeRow s wellFormed i =
+    (7, not (settingsGood s)) ∷ (9, not wellFormed) ∷ (5, not (messageGood (i .event) (i .media)))
+    ∷ (8, not (argumentsGood s (i .event) (i .media))) ∷ []
+
+-- the first of them that is given, or 0
+unfoldable pub numberBeforeRow : Settings → Bool → Input → ℕ
+numberBeforeRow s wellFormed i = firstGiven (testsBeforeRow s wellFormed i)

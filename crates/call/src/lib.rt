@@ -1,0 +1,209 @@
+// What the private and the group machine share: settings, timers, user actions, events, verdicts, and what a step sends.
+mod number;
+mod requests;
+
+ghost use mathlib.Core.Path.{_≡_};
+ghost use Rattle.call.specs.Numbers.{numberBeforeRow};
+ghost use Rattle.call.specs.Request.{requestOf};
+ghost use Rattle.call.specs.Sending.{sendTold, sendBuffer};
+use frame::Media;
+use frame::Message;
+use frame::Parties;
+use frame::Setup;
+use frame::Written;
+use frame::write_line;
+
+// The three counters, each of the sendings of one message; and a limit for each of them.
+pub struct Counters {
+    pub cfp1: u8,
+    pub cfp3: u8,
+    pub cfp4: u8,
+}
+
+impl Counters {
+    // The least limit of a counter.
+    pub const LEAST: u8 = 1;
+
+    // The largest limit of a counter.
+    pub const MOST: u8 = 16;
+
+    // Where no counter counts.
+    pub const ZERO: Counters = Counters {
+        cfp1: 0,
+        cfp3: 0,
+        cfp4: 0,
+    };
+}
+
+// What the terminal is set to.
+pub struct Settings {
+    pub own_user: u32,
+    pub own_group: u32,
+    pub restrict: bool,
+    pub acknowledgement: bool,
+    pub limits: Counters,
+}
+
+// What the host finds out: whether media can be set up, and whether the signature is good.
+pub struct Verdicts {
+    pub media: bool,
+    pub signature: bool,
+}
+
+// The timers of the private machine.
+pub enum PrivateTimer {
+    Tfp1,
+    Tfp2,
+    Tfp3,
+    Tfp4,
+    Tfp5,
+    Tfp7,
+}
+
+// The timers of the group machine.
+pub enum GroupTimer {
+    Tfg2,
+    Tfg4,
+    Tfg6,
+}
+
+// The timers, by their machine.
+pub enum Timer {
+    Private(PrivateTimer),
+    Group(GroupTimer),
+}
+
+// What the user names who starts a private call; its media stands beside it.
+pub struct PrivateStart {
+    pub identifier: u16,
+    pub callee: u32,
+    pub commencement: u8,
+    pub pck_id: u32,
+}
+
+// What the user does with a private call.
+pub enum PrivateAction {
+    Start(PrivateStart),
+    End,
+    Accept,
+    Reject,
+}
+
+// What the user names who starts a group call, and the time; its media stands beside it.
+pub struct GroupStart {
+    pub identifier: u16,
+    pub call_type: u8,
+    pub refresh: u16,
+    pub confirm: u8,
+    pub now: u32,
+}
+
+// The type that the user raises a group call to, and the time.
+pub struct GroupRaise {
+    pub call_type: u8,
+    pub now: u32,
+}
+
+// What the user does with a group call.
+pub enum GroupAction {
+    Start(GroupStart),
+    Accept,
+    Reject,
+    Leave,
+    Raise(GroupRaise),
+}
+
+// The user actions, by their machine.
+pub enum Action {
+    Private(PrivateAction),
+    Group(GroupAction),
+}
+
+// What happens: a user action, the expiry of a timer, or a message that was received.
+pub enum Event {
+    Action(Action),
+    Expiry(Timer),
+    Message(Message),
+}
+
+// What a step takes in: an event, the media beside it, and the host's verdicts.
+pub struct Input {
+    pub event: Event,
+    pub media: Media,
+    pub verdicts: Verdicts,
+}
+
+// What a step sends; its media stands beside it.
+pub enum Send {
+    Nothing,
+    Message(Message),
+}
+
+// A setup request: the parties of a private call, and what it says besides.
+pub struct Request {
+    pub parties: Parties,
+    pub setup: Setup,
+}
+
+impl Request {
+    // What an event without a setup request has in its place.
+    pub const NONE: Request = Request {
+        parties: Parties {
+            identifier: 0,
+            caller: 0,
+            callee: 0,
+        },
+        setup: Setup {
+            commencement: 0,
+            call_type: 0,
+            pck_id: 0,
+        },
+    };
+}
+
+// The number that a step gives before it looks for a row: 7 for a setting, 9 for a record that is not well formed, 5 for
+// a field of a message, 8 for an argument of an action; 0 where there is nothing to refuse.
+pub fn number_before_row(settings: Settings, well_formed: bool, input: Input) -> u8
+    ensures { λ r. ⌜ r ≡ numberBeforeRow settings «well_formed» input ⌝ }
+{
+    if !number::settings_good(settings) {
+        return 7;
+    }
+    if !well_formed {
+        return 9;
+    }
+    let event = input.event;
+    let media = input.media;
+    if !number::message_good(event, media) {
+        return 5;
+    }
+    if !number::arguments_good(settings, event, media) {
+        return 8;
+    }
+    0
+}
+
+// The setup request that an event brings: the one received, or the one that the user's start makes.
+pub fn request_of(settings: Settings, event: Event) -> Request
+    ensures { λ r. ⌜ r ≡ requestOf settings event ⌝ }
+{
+    match event {
+        Event::Action(action) => requests::action_request(settings, action),
+        Event::Expiry(_) => Request::NONE,
+        Event::Message(message) => requests::message_request(message),
+    }
+}
+
+// What a step sends, at the front of a lent buffer: nothing, or the line of a message, with the writer's number.
+pub fn write_sent(sent: Send, media: Media, out: &mut [u8]) -> Written
+    ensures { λ r. ⌜ r ≡ sendTold sent media (now (out .entry)) ⌝ }
+    ensures { λ _. ⌜ now (out .exit) ≡ sendBuffer sent media (now (out .entry)) ⌝ }
+{
+    match sent {
+        Send::Nothing => Written {
+            number: 0,
+            length: 0,
+        },
+        Send::Message(message) => write_line(message, media, out),
+    }
+}

@@ -1,0 +1,123 @@
+-- A test that is computed for every phase, cause and set of facts, and what it shows of each. Assumes nothing.
+use Prim.Native.Nat.{ℕ, zero, suc}
+use mathlib.Core.Path.{_≡_, refl}
+use mathlib.Core.List.{List, [], _∷_}
+use mathlib.Core.Bool.{Bool, true, false, _&&_}
+use lib.ListN.{getD}
+use Rattle.frame.proofs.Laws.{and-split}
+use Rattle.private_rows.specs.declared.states.Phase.{Phase}
+use Rattle.private_rows.specs.declared.causes.Cause.{Cause}
+use Rattle.private_rows.specs.declared.causes.Facts.{Facts}
+
+-- each of a list of tests
+abbrev each : List Bool → Bool
+each [] = true
+each (b ∷ bs) = b && each bs
+
+-- what they show of one
+nth : (bs : List Bool) (k : ℕ) → each bs ≡ true → getD bs k true ≡ true
+nth [] k t = refl
+nth (b ∷ bs) zero t = and-split b (each bs) t .0
+nth (b ∷ bs) (suc k) t = nth bs k (and-split b (each bs) t .1)
+
+-- of both Bools
+abbrev bothBools : (Bool → Bool) → Bool
+bothBools q = each (q true ∷ q false ∷ [])
+
+-- of one
+at-bool : (q : Bool → Bool) → bothBools q ≡ true → (b : Bool) → q b ≡ true
+at-bool q t true = nth (q true ∷ q false ∷ []) 0 t
+at-bool q t false = nth (q true ∷ q false ∷ []) 1 t
+
+-- of every phase
+abbrev phaseTests : (Phase → Bool) → List Bool
+phaseTests q = q Phase.P0 ∷ q Phase.P1 ∷ q Phase.P2Tfp1 ∷ q Phase.P2Tfp2 ∷ q Phase.P3 ∷ q Phase.P4 ∷ q Phase.P5Tfp2 ∷ q Phase.P5Tfp4 ∷ []
+
+-- of one
+at-phase : (q : Phase → Bool) → each (phaseTests q) ≡ true → (f : Phase) → q f ≡ true
+at-phase q t Phase.P0 = nth (phaseTests q) 0 t
+at-phase q t Phase.P1 = nth (phaseTests q) 1 t
+at-phase q t Phase.P2Tfp1 = nth (phaseTests q) 2 t
+at-phase q t Phase.P2Tfp2 = nth (phaseTests q) 3 t
+at-phase q t Phase.P3 = nth (phaseTests q) 4 t
+at-phase q t Phase.P4 = nth (phaseTests q) 5 t
+at-phase q t Phase.P5Tfp2 = nth (phaseTests q) 6 t
+at-phase q t Phase.P5Tfp4 = nth (phaseTests q) 7 t
+
+-- of every cause
+abbrev causeTests : (Cause → Bool) → List Bool
+causeTests q =
+    q Cause.UserStarts
+    ∷ q Cause.UserEnds
+    ∷ q Cause.UserAccepts
+    ∷ q Cause.UserRejects
+    ∷ q Cause.Tfp1Expires
+    ∷ q Cause.Tfp2Expires
+    ∷ q Cause.Tfp3Expires
+    ∷ q Cause.Tfp4Expires
+    ∷ q Cause.Tfp5Expires
+    ∷ q Cause.Tfp7Expires
+    ∷ q Cause.SetupHeard
+    ∷ q Cause.RingingHeard
+    ∷ q Cause.AcceptHeard
+    ∷ q Cause.RejectHeard
+    ∷ q Cause.ReleaseHeard
+    ∷ q Cause.ReleaseAckHeard
+    ∷ q Cause.AcceptAckHeard
+    ∷ q Cause.Other
+    ∷ []
+
+-- of one
+at-cause : (q : Cause → Bool) → each (causeTests q) ≡ true → (c : Cause) → q c ≡ true
+at-cause q t Cause.UserStarts = nth (causeTests q) 0 t
+at-cause q t Cause.UserEnds = nth (causeTests q) 1 t
+at-cause q t Cause.UserAccepts = nth (causeTests q) 2 t
+at-cause q t Cause.UserRejects = nth (causeTests q) 3 t
+at-cause q t Cause.Tfp1Expires = nth (causeTests q) 4 t
+at-cause q t Cause.Tfp2Expires = nth (causeTests q) 5 t
+at-cause q t Cause.Tfp3Expires = nth (causeTests q) 6 t
+at-cause q t Cause.Tfp4Expires = nth (causeTests q) 7 t
+at-cause q t Cause.Tfp5Expires = nth (causeTests q) 8 t
+at-cause q t Cause.Tfp7Expires = nth (causeTests q) 9 t
+at-cause q t Cause.SetupHeard = nth (causeTests q) 10 t
+at-cause q t Cause.RingingHeard = nth (causeTests q) 11 t
+at-cause q t Cause.AcceptHeard = nth (causeTests q) 12 t
+at-cause q t Cause.RejectHeard = nth (causeTests q) 13 t
+at-cause q t Cause.ReleaseHeard = nth (causeTests q) 14 t
+at-cause q t Cause.ReleaseAckHeard = nth (causeTests q) 15 t
+at-cause q t Cause.AcceptAckHeard = nth (causeTests q) 16 t
+at-cause q t Cause.Other = nth (causeTests q) 17 t
+
+-- facts by their Bools
+abbrev facts : Bool → Bool → Bool → Bool → Bool → Bool → Facts
+facts same media manual trusted own under = record { same = same; media = media; manual = manual; trusted = trusted; «own_caller» = own; under = under }
+
+-- of every set of facts
+abbrev everyFacts : (Facts → Bool) → Bool
+everyFacts q =
+    bothBools (λ a. bothBools (λ b. bothBools (λ c. bothBools (λ d. bothBools (λ e. bothBools (λ g. q (facts a b c d e g)))))))
+
+-- of one
+at-facts : (q : Facts → Bool) → everyFacts q ≡ true → (x : Facts) → q x ≡ true
+at-facts q t x =
+    let a = x .same in
+    let b = x .media in
+    let c = x .manual in
+    let d = x .trusted in
+    let e = x .«own_caller» in
+    at-bool (λ g. q (facts a b c d e g))
+    (at-bool (λ e. bothBools (λ g. q (facts a b c d e g)))
+    (at-bool (λ d. bothBools (λ e. bothBools (λ g. q (facts a b c d e g))))
+    (at-bool (λ c. bothBools (λ d. bothBools (λ e. bothBools (λ g. q (facts a b c d e g)))))
+    (at-bool (λ b. bothBools (λ c. bothBools (λ d. bothBools (λ e. bothBools (λ g. q (facts a b c d e g))))))
+    (at-bool (λ a. bothBools (λ b. bothBools (λ c. bothBools (λ d. bothBools (λ e. bothBools (λ g. q (facts a b c d e g))))))) t a)
+    b) c) d) e) (x .under)
+
+-- a test of everything
+abbrev pub everywhere : (Phase → Cause → Facts → Bool) → Bool
+everywhere q = each (phaseTests (λ f. each (causeTests (λ c. everyFacts (q f c)))))
+
+-- and what it shows
+pub anywhere : (q : Phase → Cause → Facts → Bool) → everywhere q ≡ true → (f : Phase) (c : Cause) (x : Facts) → q f c x ≡ true
+anywhere q t f c x =
+    at-facts (q f c) (at-cause (λ c. everyFacts (q f c)) (at-phase (λ f. each (causeTests (λ c. everyFacts (q f c)))) t f) c) x

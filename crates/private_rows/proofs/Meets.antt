@@ -1,0 +1,66 @@
+-- The code finds the row that is met, and no event meets two rows. Assumes nothing.
+use Prim.Native.Nat.{ℕ}
+use mathlib.Core.Path.{_≡_, refl, sym, ap, _∙_}
+use mathlib.Core.List.{List, [], _∷_}
+use mathlib.Core.Bool.{Bool, true, not, _&&_, _||_}
+use lib.ListN.{getD}
+use lib.Dec.{eqb}
+use borrow.Author.Tests.{eqb-true}
+use Rattle.private_rows.specs.Rows.{rowNumber, rowIn, rowsAsk, firstMet}
+use Rattle.private_rows.specs.Found.{atOf, foundAt}
+use Rattle.private_rows.specs.declared.states.Phase.{Phase}
+use Rattle.private_rows.specs.declared.causes.Cause.{Cause}
+use Rattle.private_rows.specs.declared.causes.Facts.{Facts}
+use Rattle.private_rows.specs.declared.rows.Row.{Row}
+use Rattle.private_rows.specs.declared.rows.Row.the-variants.{Discard, R1, R2, R3, R4, R5, R6, R7, R8, R9, R10, R11, R12, R13, R14, R15, R16, R17, R18, R19, R20, R21, R22, R23, R24, R25, R26, R27, R28, R29}
+use Rattle.private_rows.proofs.Everywhere.{everywhere, anywhere}
+
+-- the rows in the order of their numbers
+abbrev rows : List Row
+rows = Discard ∷ R1 ∷ R2 ∷ R3 ∷ R4 ∷ R5 ∷ R6 ∷ R7 ∷ R8 ∷ R9 ∷ R10 ∷ R11 ∷ R12 ∷ R13 ∷ R14 ∷ R15 ∷ R16 ∷ R17 ∷ R18 ∷ R19 ∷ R20 ∷ R21 ∷ R22 ∷ R23 ∷ R24 ∷ R25 ∷ R26 ∷ R27 ∷ R28 ∷ R29 ∷ []
+
+-- a row is found by its number
+row-back : (r : Row) → getD rows (rowNumber r) Discard ≡ r
+row-back Discard = refl
+row-back R1 = refl
+row-back R2 = refl
+row-back R3 = refl
+row-back R4 = refl
+row-back R5 = refl
+row-back R6 = refl
+row-back R7 = refl
+row-back R8 = refl
+row-back R9 = refl
+row-back R10 = refl
+row-back R11 = refl
+row-back R12 = refl
+row-back R13 = refl
+row-back R14 = refl
+row-back R15 = refl
+row-back R16 = refl
+row-back R17 = refl
+row-back R18 = refl
+row-back R19 = refl
+row-back R20 = refl
+row-back R21 = refl
+row-back R22 = refl
+row-back R23 = refl
+row-back R24 = refl
+row-back R25 = refl
+row-back R26 = refl
+row-back R27 = refl
+row-back R28 = refl
+row-back R29 = refl
+
+-- rows with the same number are the same
+pub same-row : (a b : Row) → eqb (rowNumber a) (rowNumber b) ≡ true → a ≡ b
+same-row a b e = sym (row-back a) ∙ ap (λ (n : ℕ). getD rows n Discard) (eqb-true (rowNumber a) (rowNumber b) e) ∙ row-back b
+
+-- the row found is the row met
+abbrev finds : Phase → Cause → Facts → Bool
+finds f c x = eqb (rowNumber (foundAt (atOf f) c x)) (rowNumber (firstMet (rowsAsk f c x)))
+
+-- everywhere
+pub found-is-met : (f : Phase) (c : Cause) (x : Facts) → foundAt (atOf f) c x ≡ rowIn f c x
+unfolding rowIn
+found-is-met f c x = same-row (foundAt (atOf f) c x) (firstMet (rowsAsk f c x)) (anywhere finds refl f c x)

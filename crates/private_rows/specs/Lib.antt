@@ -1,0 +1,7 @@
+pub mod Phases
+pub mod Formed
+pub mod Causes
+pub mod Rows
+pub mod Found
+pub mod Effects
+pub mod Carried

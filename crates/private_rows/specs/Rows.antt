@@ -1,0 +1,149 @@
+-- Which row an event meets: the rows R1 to R29, each with all that it asks. Assumes nothing.
+use Prim.Native.Nat.{ℕ}
+use mathlib.Core.List.{List, [], _∷_}
+use mathlib.Core.Bool.{Bool, cond, not, _&&_, _||_}
+use lib.Dec.{eqb}
+use Rattle.call.specs.declared.PrivateTimer.{PrivateTimer}
+use Rattle.call.specs.declared.Settings.{Settings}
+use Rattle.call.specs.declared.Input.{Input}
+use Rattle.private_rows.specs.Phases.{stateNumber, has, stateOf, runningOf, phaseIn}
+use Rattle.private_rows.specs.Causes.{causeOf, factsOf, ranOutBy}
+use Rattle.private_rows.specs.declared.states.Phase.{Phase}
+use Rattle.private_rows.specs.declared.states.PrivateRecord.{PrivateRecord}
+use Rattle.private_rows.specs.declared.causes.Cause.{Cause}
+use Rattle.private_rows.specs.declared.causes.Facts.{Facts}
+use Rattle.private_rows.specs.declared.rows.Row.{Row}
+use Rattle.private_rows.specs.declared.rows.Row.the-variants.{Discard, R1, R2, R3, R4, R5, R6, R7, R8, R9, R10, R11, R12, R13, R14, R15, R16, R17, R18, R19, R20, R21, R22, R23, R24, R25, R26, R27, R28, R29}
+
+-- the rows by their numbers, 0 where none is met
+abbrev pub rowNumber : Row → ℕ
+rowNumber Discard = 0
+rowNumber R1 = 1
+rowNumber R2 = 2
+rowNumber R3 = 3
+rowNumber R4 = 4
+rowNumber R5 = 5
+rowNumber R6 = 6
+rowNumber R7 = 7
+rowNumber R8 = 8
+rowNumber R9 = 9
+rowNumber R10 = 10
+rowNumber R11 = 11
+rowNumber R12 = 12
+rowNumber R13 = 13
+rowNumber R14 = 14
+rowNumber R15 = 15
+rowNumber R16 = 16
+rowNumber R17 = 17
+rowNumber R18 = 18
+rowNumber R19 = 19
+rowNumber R20 = 20
+rowNumber R21 = 21
+rowNumber R22 = 22
+rowNumber R23 = 23
+rowNumber R24 = 24
+rowNumber R25 = 25
+rowNumber R26 = 26
+rowNumber R27 = 27
+rowNumber R28 = 28
+rowNumber R29 = 29
+
+-- the causes by numbers, to tell them apart
+abbrev pub causeNumber : Cause → ℕ
+causeNumber Cause.UserStarts = 0
+causeNumber Cause.UserEnds = 1
+causeNumber Cause.UserAccepts = 2
+causeNumber Cause.UserRejects = 3
+causeNumber Cause.Tfp1Expires = 4
+causeNumber Cause.Tfp2Expires = 5
+causeNumber Cause.Tfp3Expires = 6
+causeNumber Cause.Tfp4Expires = 7
+causeNumber Cause.Tfp5Expires = 8
+causeNumber Cause.Tfp7Expires = 9
+causeNumber Cause.SetupHeard = 10
+causeNumber Cause.RingingHeard = 11
+causeNumber Cause.AcceptHeard = 12
+causeNumber Cause.RejectHeard = 13
+causeNumber Cause.ReleaseHeard = 14
+causeNumber Cause.ReleaseAckHeard = 15
+causeNumber Cause.AcceptAckHeard = 16
+causeNumber Cause.Other = 17
+
+-- two causes are the same
+abbrev pub sameCause : Cause → Cause → Bool
+sameCause c d = eqb (causeNumber c) (causeNumber d)
+
+-- ---- what each row asks, of the phase f, the cause c and the facts x
+
+-- the state has this number
+abbrev pub inP : ℕ → Phase → Bool
+inP n f = eqb (stateNumber (stateOf f)) n
+
+-- a timer runs
+abbrev pub runs : PrivateTimer → Phase → Bool
+runs t f = has (runningOf f) t
+
+-- a timer that runs expires; the expiry of any other meets no row
+abbrev pub expires : PrivateTimer → Phase → Cause → Bool
+expires t f c = has (ranOutBy c) t && runs t f
+
+-- a setup request that counts is heard in P0 or P1, and is not the same: the case of R19 to R22
+abbrev pub newRequest : Phase → Cause → Facts → Bool
+newRequest f c x = (inP 0 f || inP 1 f) && (sameCause c Cause.SetupHeard && not (x .same))
+
+-- another message is heard, and it is the same
+abbrev pub same : Cause → Cause → Facts → Bool
+same kind c x = sameCause c kind && x .same
+
+-- the rows, each with all that it asks
+abbrev pub rowsAsk : Phase → Cause → Facts → List (Row × Bool)
+rowsAsk f c x =
+    (R1, (inP 0 f || inP 1 f) && sameCause c Cause.UserStarts)
+    ∷ (R2, inP 2 f && (expires PrivateTimer.Tfp1 f c && x .under))
+    ∷ (R3, inP 2 f && (expires PrivateTimer.Tfp1 f c && not (x .under)))
+    ∷ (R4, inP 2 f && (same Cause.RingingHeard c x && runs PrivateTimer.Tfp1 f))
+    ∷ (R5, inP 2 f && (same Cause.AcceptHeard c x && x .media))
+    ∷ (R6, inP 2 f && same Cause.RejectHeard c x)
+    ∷ (R7, inP 2 f && expires PrivateTimer.Tfp2 f c)
+    ∷ (R8, inP 2 f && sameCause c Cause.UserEnds)
+    ∷ (R9, inP 4 f && sameCause c Cause.UserEnds)
+    ∷ (R10, inP 3 f && (expires PrivateTimer.Tfp3 f c && x .under))
+    ∷ (R11, inP 3 f && (expires PrivateTimer.Tfp3 f c && not (x .under)))
+    ∷ (R12, inP 3 f && same Cause.ReleaseAckHeard c x)
+    ∷ (R13, (inP 3 f || (inP 4 f || inP 5 f)) && same Cause.ReleaseHeard c x)
+    ∷ (R14, inP 1 f && same Cause.ReleaseHeard c x)
+    ∷ (R15, inP 4 f && expires PrivateTimer.Tfp5 f c)
+    ∷ (R16, inP 5 f && (expires PrivateTimer.Tfp4 f c && x .under))
+    ∷ (R17, inP 5 f && (expires PrivateTimer.Tfp4 f c && not (x .under)))
+    ∷ (R18, inP 5 f && (same Cause.AcceptAckHeard c x && runs PrivateTimer.Tfp4 f))
+    ∷ (R19, newRequest f c x && not (x .media))
+    ∷ (R20, newRequest f c x && (x .media && (not (x .manual) && x .trusted)))
+    ∷ (R21, newRequest f c x && (x .media && (not (x .manual) && not (x .trusted))))
+    ∷ (R22, newRequest f c x && (x .media && x .manual))
+    ∷ (R23, inP 5 f && (runs PrivateTimer.Tfp2 f && (sameCause c Cause.UserAccepts && x .trusted)))
+    ∷ (R24, inP 5 f && (runs PrivateTimer.Tfp2 f && (sameCause c Cause.UserAccepts && not (x .trusted))))
+    ∷ (R25, inP 5 f && (runs PrivateTimer.Tfp2 f && sameCause c Cause.UserRejects))
+    ∷ (R26, inP 5 f && expires PrivateTimer.Tfp2 f c)
+    ∷ (R27, (inP 2 f || (inP 3 f || (inP 4 f || inP 5 f))) && (sameCause c Cause.SetupHeard && not (x .same)))
+    ∷ (R28, inP 1 f && expires PrivateTimer.Tfp7 f c)
+    ∷ (R29, inP 4 f && (x .«own_caller» && same Cause.AcceptHeard c x))
+    ∷ []
+
+-- the first row of a list for which all that it asks holds; Discard where there is none
+abbrev pub firstMet : List (Row × Bool) → Row
+firstMet [] = Discard
+firstMet (row ∷ rows) = cond (row .1) (row .0) (firstMet rows)
+
+-- ---- the row that an event meets
+
+-- the row that is met in a phase
+unfoldable pub rowIn : Phase → Cause → Facts → Row
+rowIn f c x = firstMet (rowsAsk f c x)
+
+-- the phase of a record
+abbrev pub phaseOf : PrivateRecord → Phase
+phaseOf p = phaseIn (p .state) (p .running)
+
+-- the row that an event meets from a record
+abbrev pub rowOf : Settings → PrivateRecord → Input → Row
+rowOf s p i = rowIn (phaseOf p) (causeOf s (i .event)) (factsOf s (phaseOf p) (p .counters) (p .call) i)

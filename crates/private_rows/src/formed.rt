@@ -1,0 +1,111 @@
+// Whether a record is well formed: its running timers, its counters, its call.
+ghost use mathlib.Core.Path.{_≡_};
+ghost use Rattle.private_rows.specs.Formed.{runningGood, counterGood, countersGood, noCall, oneOwn, roleGood, fieldsGood, callGood};
+use crate::states::PrivateCall;
+use crate::states::State;
+use crate::states::Timers;
+use crate::states::phase_in;
+use crate::states::running_of;
+use crate::states::same_timers;
+use crate::states::state_number;
+use call::Counters;
+use call::Settings;
+use frame::Message;
+use frame::Parties;
+use frame::Setup;
+use frame::carried::media_none;
+use frame::range::in_range;
+
+// What runs is what the table has for the state.
+pub(crate) fn running_good(state: State, running: Timers) -> bool
+    ensures { λ r. ⌜ r ≡ runningGood state running ⌝ }
+{
+    same_timers(running, running_of(phase_in(state, running)))
+}
+
+// A counter: 1 to its limit while its timer runs, else 0.
+fn counter_good(runs: bool, limit: u8, counter: u8) -> bool
+    ensures { λ r. ⌜ r ≡ counterGood runs limit counter ⌝ }
+{
+    if runs {
+        (1 <= counter) & (counter <= limit)
+    } else {
+        counter == 0
+    }
+}
+
+// The three counters.
+pub(crate) fn counters_good(running: Timers, limits: Counters, counters: Counters) -> bool
+    ensures { λ r. ⌜ r ≡ countersGood running limits counters ⌝ }
+{
+    counter_good(running.tfp1, limits.cfp1, counters.cfp1)
+        & (counter_good(running.tfp3, limits.cfp3, counters.cfp3)
+            & counter_good(running.tfp4, limits.cfp4, counters.cfp4))
+}
+
+// Every field of the call is 0.
+fn no_call(call: PrivateCall) -> bool
+    ensures { λ r. ⌜ r ≡ noCall call ⌝ }
+{
+    let parties = call.parties;
+    let media = call.media;
+    (parties.identifier == 0)
+        & ((parties.caller == 0)
+            & ((parties.callee == 0)
+                & ((call.commencement == 0) & (media_none(media) & (call.pck_id == 0)))))
+}
+
+// Exactly one of caller and callee is own.
+fn one_own(caller: bool, callee: bool) -> bool
+    ensures { λ r. ⌜ r ≡ oneOwn caller callee ⌝ }
+{
+    (caller & !callee) | (!caller & callee)
+}
+
+// The caller is own in P2, and the callee in P5.
+fn role_good(state: State, caller: bool, callee: bool) -> bool
+    ensures { λ r. ⌜ r ≡ roleGood state caller callee ⌝ }
+{
+    match state {
+        State::P0 => true,
+        State::P1 => true,
+        State::P2 => caller,
+        State::P3 => true,
+        State::P4 => true,
+        State::P5 => callee,
+    }
+}
+
+// Every field of the call is in range: it is the call of a setup request.
+fn fields_good(call: PrivateCall) -> bool
+    ensures { λ r. ⌜ r ≡ fieldsGood call ⌝ }
+{
+    let parties = call.parties;
+    let media = call.media;
+    in_range(
+        Message::SetupRequest(
+            parties,
+            Setup {
+                commencement: call.commencement,
+                call_type: Setup::PRIVATE,
+                pck_id: call.pck_id,
+            },
+        ),
+        media,
+    )
+}
+
+// The call: none, in P0 alone; or every field in range, and own the one that it must be.
+pub(crate) fn call_good(settings: Settings, state: State, call: PrivateCall) -> bool
+    ensures { λ r. ⌜ r ≡ callGood settings state call ⌝ }
+{
+    let parties = call.parties;
+    let own = settings.own_user;
+    let caller = parties.caller == own;
+    let callee = parties.callee == own;
+    if parties.identifier == 0 {
+        (state_number(state) == 0) & no_call(call)
+    } else {
+        fields_good(call) & (one_own(caller, callee) & role_good(state, caller, callee))
+    }
+}

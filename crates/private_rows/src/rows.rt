@@ -1,0 +1,208 @@
+// The rows, and which of them is met.
+ghost use mathlib.Core.Path.{_≡_};
+ghost use mathlib.Core.Bool.{_&&_};
+ghost use Rattle.private_rows.specs.Found.{orderOf, atOf, met as metOf, either as eitherOf, setupRow, acceptRow, foundAt};
+ghost use Rattle.private_rows.specs.Rows.{rowNumber, rowIn};
+use crate::causes::Cause;
+use crate::causes::Facts;
+use crate::states::Phase;
+
+// The rows, and Discard where none is met.
+pub enum Row {
+    Discard,
+    R1,
+    R2,
+    R3,
+    R4,
+    R5,
+    R6,
+    R7,
+    R8,
+    R9,
+    R10,
+    R11,
+    R12,
+    R13,
+    R14,
+    R15,
+    R16,
+    R17,
+    R18,
+    R19,
+    R20,
+    R21,
+    R22,
+    R23,
+    R24,
+    R25,
+    R26,
+    R27,
+    R28,
+    R29,
+}
+
+// Which of the phases that rows ask for a phase is.
+struct At {
+    fresh: bool,
+    p1: bool,
+    p2: bool,
+    p2_tfp1: bool,
+    p2_tfp2: bool,
+    p3: bool,
+    p4: bool,
+    p5_tfp2: bool,
+    p5_tfp4: bool,
+    later: bool,
+}
+
+// The phases in their order.
+fn order(phase: Phase) -> u8
+    ensures { λ r. ⌜ r ≡ orderOf phase ⌝ }
+{
+    match phase {
+        Phase::P0 => 0,
+        Phase::P1 => 1,
+        Phase::P2Tfp1 => 2,
+        Phase::P2Tfp2 => 3,
+        Phase::P3 => 4,
+        Phase::P4 => 5,
+        Phase::P5Tfp2 => 6,
+        Phase::P5Tfp4 => 7,
+    }
+}
+
+// Which of the phases that rows ask for this is.
+fn at_phase(phase: Phase) -> At
+    ensures { λ r. ⌜ r ≡ atOf phase ⌝ }
+{
+    let n = order(phase);
+    At {
+        fresh: n <= 1,
+        p1: n == 1,
+        p2: (n == 2) | (n == 3),
+        p2_tfp1: n == 2,
+        p2_tfp2: n == 3,
+        p3: n == 4,
+        p4: n == 5,
+        p5_tfp2: n == 6,
+        p5_tfp4: n == 7,
+        later: 4 <= n,
+    }
+}
+
+// A row that is met where all that it asks holds.
+fn met(asked: bool, row: Row) -> Row
+    ensures { λ r. ⌜ r ≡ metOf asked row ⌝ }
+{
+    if asked { row } else { Row::Discard }
+}
+
+// The first of two rows that is met.
+fn either(asked: bool, row: Row, asked_else: bool, other: Row) -> Row
+    ensures { λ r. ⌜ r ≡ eitherOf asked row «asked_else» other ⌝ }
+{
+    if asked {
+        row
+    } else {
+        if asked_else { other } else { Row::Discard }
+    }
+}
+
+// The row of a setup request that counts and is not the same.
+fn setup_row(fresh: bool, facts: Facts) -> Row
+    ensures { λ r. ⌜ r ≡ setupRow fresh facts ⌝ }
+{
+    if !fresh {
+        return Row::R27;
+    }
+    if !facts.media {
+        return Row::R19;
+    }
+    if facts.manual {
+        return Row::R22;
+    }
+    if facts.trusted { Row::R20 } else { Row::R21 }
+}
+
+// The row that is met.
+fn found_at(at: At, cause: Cause, x: Facts) -> Row
+    ensures { λ r. ⌜ r ≡ foundAt at cause x ⌝ }
+{
+    match cause {
+        Cause::UserStarts => met(at.fresh, Row::R1),
+        Cause::UserEnds => either(at.p2, Row::R8, at.p4, Row::R9),
+        Cause::UserAccepts => either(at.p5_tfp2 & x.trusted, Row::R23, at.p5_tfp2, Row::R24),
+        Cause::UserRejects => met(at.p5_tfp2, Row::R25),
+        Cause::Tfp1Expires => either(at.p2_tfp1 & x.under, Row::R2, at.p2_tfp1, Row::R3),
+        Cause::Tfp2Expires => either(at.p2_tfp2, Row::R7, at.p5_tfp2, Row::R26),
+        Cause::Tfp3Expires => either(at.p3 & x.under, Row::R10, at.p3, Row::R11),
+        Cause::Tfp4Expires => either(at.p5_tfp4 & x.under, Row::R16, at.p5_tfp4, Row::R17),
+        Cause::Tfp5Expires => met(at.p4, Row::R15),
+        Cause::Tfp7Expires => met(at.p1, Row::R28),
+        Cause::SetupHeard => met(!x.same, setup_row(at.fresh, x)),
+        Cause::RingingHeard => met(at.p2_tfp1 & x.same, Row::R4),
+        Cause::AcceptHeard => accept_row(at, x),
+        Cause::RejectHeard => met(at.p2 & x.same, Row::R6),
+        Cause::ReleaseHeard => either(at.p1 & x.same, Row::R14, at.later & x.same, Row::R13),
+        Cause::ReleaseAckHeard => met(at.p3 & x.same, Row::R12),
+        Cause::AcceptAckHeard => met(at.p5_tfp4 & x.same, Row::R18),
+        Cause::Other => Row::Discard,
+    }
+}
+
+// The row of an accept.
+fn accept_row(at: At, x: Facts) -> Row
+    ensures { λ r. ⌜ r ≡ acceptRow at x ⌝ }
+{
+    either(
+        at.p2 & (x.same & x.media),
+        Row::R5,
+        at.p4 & (x.own_caller & x.same),
+        Row::R29,
+    )
+}
+
+// The row that is met in a phase.
+pub(crate) fn row_in(phase: Phase, cause: Cause, facts: Facts) -> Row
+    ensures { λ r. ⌜ r ≡ rowIn phase cause facts ⌝ }
+{
+    found_at(at_phase(phase), cause, facts)
+}
+
+// The rows by their numbers, 0 where none is met.
+pub fn row_number(row: Row) -> u8
+    ensures { λ r. ⌜ r ≡ rowNumber row ⌝ }
+{
+    match row {
+        Row::Discard => 0,
+        Row::R1 => 1,
+        Row::R2 => 2,
+        Row::R3 => 3,
+        Row::R4 => 4,
+        Row::R5 => 5,
+        Row::R6 => 6,
+        Row::R7 => 7,
+        Row::R8 => 8,
+        Row::R9 => 9,
+        Row::R10 => 10,
+        Row::R11 => 11,
+        Row::R12 => 12,
+        Row::R13 => 13,
+        Row::R14 => 14,
+        Row::R15 => 15,
+        Row::R16 => 16,
+        Row::R17 => 17,
+        Row::R18 => 18,
+        Row::R19 => 19,
+        Row::R20 => 20,
+        Row::R21 => 21,
+        Row::R22 => 22,
+        Row::R23 => 23,
+        Row::R24 => 24,
+        Row::R25 => 25,
+        Row::R26 => 26,
+        Row::R27 => 27,
+        Row::R28 => 28,
+        Row::R29 => 29,
+    }
+}

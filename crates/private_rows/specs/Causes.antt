@@ -16,9 +16,8 @@ use Rattle.call.specs.declared.Action.{Action}
 use Rattle.call.specs.declared.Event.{Event}
 use Rattle.call.specs.declared.Input.{Input}
 use Rattle.call.specs.declared.Request.{Request}
-use Rattle.private_rows.specs.Phases.{countOf, noTimer, tfp1, tfp2, tfp3, tfp4, tfp5, tfp7}
+use Rattle.private_rows.specs.Phases.{countOf}
 use Rattle.private_rows.specs.declared.states.Phase.{Phase}
-use Rattle.private_rows.specs.declared.states.Timers.{Timers}
 use Rattle.private_rows.specs.declared.states.PrivateCall.{PrivateCall}
 use Rattle.private_rows.specs.declared.causes.Cause.{Cause}
 use Rattle.private_rows.specs.declared.causes.Facts.{Facts}
@@ -72,27 +71,6 @@ abbrev pub causeOf : Settings → Event → Cause
 causeOf s (Event.Action a) = actionCause a
 causeOf s (Event.Expiry t) = timerCause t
 causeOf s (Event.Message m) = messageCause (s .«own_user») m
-
--- the timer that just ran out
-abbrev pub ranOutBy : Cause → Timers
-ranOutBy Cause.UserStarts = noTimer
-ranOutBy Cause.UserEnds = noTimer
-ranOutBy Cause.UserAccepts = noTimer
-ranOutBy Cause.UserRejects = noTimer
-ranOutBy Cause.Tfp1Expires = tfp1
-ranOutBy Cause.Tfp2Expires = tfp2
-ranOutBy Cause.Tfp3Expires = tfp3
-ranOutBy Cause.Tfp4Expires = tfp4
-ranOutBy Cause.Tfp5Expires = tfp5
-ranOutBy Cause.Tfp7Expires = tfp7
-ranOutBy Cause.SetupHeard = noTimer
-ranOutBy Cause.RingingHeard = noTimer
-ranOutBy Cause.AcceptHeard = noTimer
-ranOutBy Cause.RejectHeard = noTimer
-ranOutBy Cause.ReleaseHeard = noTimer
-ranOutBy Cause.ReleaseAckHeard = noTimer
-ranOutBy Cause.AcceptAckHeard = noTimer
-ranOutBy Cause.Other = noTimer
 
 -- ---- what a row may ask besides
 

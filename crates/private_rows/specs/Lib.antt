@@ -3,5 +3,3 @@ pub mod Formed
 pub mod Causes
 pub mod Rows
 pub mod Found
-pub mod Effects
-pub mod Carried

@@ -7,7 +7,7 @@ use Rattle.call.specs.declared.PrivateTimer.{PrivateTimer}
 use Rattle.call.specs.declared.Settings.{Settings}
 use Rattle.call.specs.declared.Input.{Input}
 use Rattle.private_rows.specs.Phases.{stateNumber, has, stateOf, runningOf, phaseIn}
-use Rattle.private_rows.specs.Causes.{causeOf, factsOf, ranOutBy}
+use Rattle.private_rows.specs.Causes.{privateTimerCause, causeOf, factsOf}
 use Rattle.private_rows.specs.declared.states.Phase.{Phase}
 use Rattle.private_rows.specs.declared.states.PrivateRecord.{PrivateRecord}
 use Rattle.private_rows.specs.declared.causes.Cause.{Cause}
@@ -85,7 +85,7 @@ runs t f = has (runningOf f) t
 
 -- a timer that runs expires; the expiry of any other meets no row
 abbrev pub expires : PrivateTimer → Phase → Cause → Bool
-expires t f c = has (ranOutBy c) t && runs t f
+expires t f c = sameCause c (privateTimerCause t) && runs t f
 
 -- a setup request that counts is heard in P0 or P1, and is not the same: the case of R19 to R22
 abbrev pub newRequest : Phase → Cause → Facts → Bool

@@ -1,9 +1,8 @@
 // What happens, and what a row may ask besides.
 ghost use mathlib.Core.Path.{_≡_};
-ghost use Rattle.private_rows.specs.Causes.{privateActionCause, actionCause, privateTimerCause, timerCause, setupCause, messageCause, causeOf, sameIdentifier, sameCall, messageSame, sameOf, pckAsked, trusted as trustedBy, factsOf, ranOutBy};
+ghost use Rattle.private_rows.specs.Causes.{privateActionCause, actionCause, privateTimerCause, timerCause, setupCause, messageCause, causeOf, sameIdentifier, sameCall, messageSame, sameOf, pckAsked, trusted as trustedBy, factsOf};
 use crate::states::Phase;
 use crate::states::PrivateCall;
-use crate::states::Timers;
 use crate::states::count_of;
 use call::Action;
 use call::Counters;
@@ -141,32 +140,6 @@ pub(crate) fn cause_of(settings: Settings, event: Event) -> Cause
         Event::Action(action) => action_cause(action),
         Event::Expiry(timer) => timer_cause(timer),
         Event::Message(message) => message_cause(settings.own_user, message),
-    }
-}
-
-// The timer that just ran out.
-pub(crate) fn ran_out(cause: Cause) -> Timers
-    ensures { λ r. ⌜ r ≡ ranOutBy cause ⌝ }
-{
-    match cause {
-        Cause::UserStarts => Timers::NONE,
-        Cause::UserEnds => Timers::NONE,
-        Cause::UserAccepts => Timers::NONE,
-        Cause::UserRejects => Timers::NONE,
-        Cause::Tfp1Expires => Timers::TFP1,
-        Cause::Tfp2Expires => Timers::TFP2,
-        Cause::Tfp3Expires => Timers::TFP3,
-        Cause::Tfp4Expires => Timers::TFP4,
-        Cause::Tfp5Expires => Timers::TFP5,
-        Cause::Tfp7Expires => Timers::TFP7,
-        Cause::SetupHeard => Timers::NONE,
-        Cause::RingingHeard => Timers::NONE,
-        Cause::AcceptHeard => Timers::NONE,
-        Cause::RejectHeard => Timers::NONE,
-        Cause::ReleaseHeard => Timers::NONE,
-        Cause::ReleaseAckHeard => Timers::NONE,
-        Cause::AcceptAckHeard => Timers::NONE,
-        Cause::Other => Timers::NONE,
     }
 }
 

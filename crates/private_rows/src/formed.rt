@@ -1,5 +1,7 @@
 // Whether a record is well formed: its running timers, its counters, its call.
 ghost use mathlib.Core.Path.{_≡_};
+ghost use lib.Dec.{eqb};
+ghost use Rattle.private_rows.specs.Phases.{stateNumber};
 ghost use Rattle.private_rows.specs.Formed.{runningGood, counterGood, countersGood, noCall, oneOwn, roleGood, fieldsGood, callGood};
 use crate::states::PrivateCall;
 use crate::states::State;
@@ -7,7 +9,6 @@ use crate::states::Timers;
 use crate::states::phase_in;
 use crate::states::running_of;
 use crate::states::same_timers;
-use crate::states::state_number;
 use call::Counters;
 use call::Settings;
 use frame::Message;
@@ -62,6 +63,20 @@ fn one_own(caller: bool, callee: bool) -> bool
     (caller & !callee) | (!caller & callee)
 }
 
+// The state is P0.
+fn start_stop(state: State) -> bool
+    ensures { λ r. ⌜ r ≡ eqb (stateNumber state) 0 ⌝ }
+{
+    match state {
+        State::P0 => true,
+        State::P1 => false,
+        State::P2 => false,
+        State::P3 => false,
+        State::P4 => false,
+        State::P5 => false,
+    }
+}
+
 // The caller is own in P2, and the callee in P5.
 fn role_good(state: State, caller: bool, callee: bool) -> bool
     ensures { λ r. ⌜ r ≡ roleGood state caller callee ⌝ }
@@ -104,7 +119,7 @@ pub(crate) fn call_good(settings: Settings, state: State, call: PrivateCall) -> 
     let caller = parties.caller == own;
     let callee = parties.callee == own;
     if parties.identifier == 0 {
-        (state_number(state) == 0) & no_call(call)
+        start_stop(state) & no_call(call)
     } else {
         fields_good(call) & (one_own(caller, callee) & role_good(state, caller, callee))
     }

@@ -1,6 +1,6 @@
 // The private record: its state, its running timers, its counters and its call; and the phases.
 ghost use mathlib.Core.Path.{_≡_};
-ghost use Rattle.private_rows.specs.Phases.{stateNumber, phaseIn, runningOf, countOf, sameTimers};
+ghost use Rattle.private_rows.specs.Phases.{phaseIn, runningOf, countOf, sameTimers};
 use call::Counters;
 use frame::Media;
 use frame::Parties;
@@ -147,20 +147,6 @@ pub enum Phase {
     P4,
     P5Tfp2,
     P5Tfp4,
-}
-
-// The states by their numbers.
-pub(crate) fn state_number(state: State) -> u8
-    ensures { λ r. ⌜ r ≡ stateNumber state ⌝ }
-{
-    match state {
-        State::P0 => 0,
-        State::P1 => 1,
-        State::P2 => 2,
-        State::P3 => 3,
-        State::P4 => 4,
-        State::P5 => 5,
-    }
 }
 
 // The phase of a state where these timers run.

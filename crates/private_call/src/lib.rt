@@ -1,0 +1,92 @@
+// The private call machine: one step, from settings, record, input and a lent buffer.
+ghost use mathlib.Core.Path.{_≡_};
+ghost use Rattle.private_call.specs.Step.{identifierTaken, refusedOf, movedOf, stepOf, stepBuffer};
+use call::Event;
+use call::Input;
+use call::Settings;
+use call::number_before_row;
+use call::request_of;
+use call::write_sent;
+use frame::Written;
+use private_rows::Carried;
+use private_rows::carry_out;
+use private_rows::row_of;
+use private_rows::rows::Row;
+use private_rows::rows::row_number;
+use private_rows::states::PrivateRecord;
+use private_rows::states::Timers;
+use private_rows::well_formed;
+
+// A step's answer: the number that refuses, or 0; the row, or 0; the next record; the timers to stop, then those to start;
+// the length of the line at the front of the buffer, or 0.
+pub struct Stepped {
+    pub number: u8,
+    pub row: u8,
+    pub next: PrivateRecord,
+    pub stop: Timers,
+    pub start: Timers,
+    pub length: usize,
+}
+
+// A refusal: the record as it was, no row, no timers, no line.
+fn refused(number: u8, stored: PrivateRecord) -> Stepped
+    ensures { λ r. ⌜ r ≡ refusedOf number stored ⌝ }
+{
+    Stepped {
+        number: number,
+        row: 0,
+        next: stored,
+        stop: Timers::NONE,
+        start: Timers::NONE,
+        length: 0,
+    }
+}
+
+// The row is R1, and the identifier that the user names is the stored one.
+fn identifier_taken(settings: Settings, stored: PrivateRecord, event: Event, row: Row) -> bool
+    ensures { λ r. ⌜ r ≡ identifierTaken settings stored event row ⌝ }
+{
+    let request = request_of(settings, event);
+    (row_number(row) == 1) & (request.parties.identifier == stored.call.parties.identifier)
+}
+
+// A step that is not refused before its line is written.
+fn carried(row: Row, done: Carried, written: Written) -> Stepped
+    ensures { λ r. ⌜ r ≡ movedOf row done (written .length) ⌝ }
+{
+    let next = done.next;
+    let stop = done.stop;
+    let start = done.start;
+    Stepped {
+        number: 0,
+        row: row_number(row),
+        next: next,
+        stop: stop,
+        start: start,
+        length: written.length,
+    }
+}
+
+// A step of the private call machine.
+pub fn step(settings: Settings, stored: PrivateRecord, input: Input, out: &mut [u8]) -> Stepped
+    ensures { λ r. ⌜ r ≡ stepOf settings stored input (now (out .entry)) ⌝ }
+    ensures { λ _. ⌜ now (out .exit) ≡ stepBuffer settings stored input (now (out .entry)) ⌝ }
+{
+    let number = number_before_row(settings, well_formed(settings, stored), input);
+    if number != 0 {
+        return refused(number, stored);
+    }
+    let event = input.event;
+    let row = row_of(settings, stored, input);
+    if identifier_taken(settings, stored, event, row) {
+        return refused(8, stored);
+    }
+    let done = carry_out(settings, stored, input, row);
+    let sent = done.sent;
+    let media = done.next.call.media;
+    let written = write_sent(sent, media, out);
+    if written.number != 0 {
+        return refused(written.number, stored);
+    }
+    carried(row, done, written)
+}

@@ -1,0 +1,14 @@
+-- `private_effects::settled::started` meets its contract: what is known at each return gives the case. Assumes nothing.
+use Rattle.private_effects.specs.Carried.{startedOf}
+use borrow.Author.Needs.{needs}
+use Rattle.private_effects.proofs.settled.started.Statement.{statement}
+use Rattle.private_effects.proofs.settled.started.Tie as tie
+
+pub started-spec : {M : Type 1} → statement M
+unfolding startedOf
+started-spec =
+    tie.close
+    (tie.spec
+    (λ c κs. search needs)
+    (λ c κs. search needs)
+    (λ c. rw (c .before .state-number .ensures, c .before .before .state-changes .ensures)))

@@ -1,0 +1,183 @@
+// What each row does: the table of the rows.
+ghost use mathlib.Core.Path.{_≡_};
+ghost use Rattle.private_effects.specs.Effects.{enters as entersOf, stays as staysOf, repeats as repeatsOf, turns as turnsOf, effectOf, reasonNumber};
+use private_rows::rows::Row;
+use private_rows::states::State;
+use private_rows::states::Timers;
+
+// Which call the record holds afterwards.
+pub enum Hold {
+    // The stored one.
+    Keep,
+    // The one of the setup request.
+    Request,
+    // The stored one, with the media that came with the message.
+    Media,
+    // None.
+    Clear,
+}
+
+// The reasons of a reject.
+pub enum Reason {
+    Reject,
+    MediaFailure,
+    Busy,
+    SecurityFailure,
+    Failed,
+}
+
+// What a row sends.
+pub enum Say {
+    Nothing,
+    SetupRequest,
+    Ringing,
+    Accept,
+    Release,
+    ReleaseAck,
+    AcceptAck,
+    // A reject with this reason, or FAILED where reasons are kept back.
+    Reject(Reason),
+    // BUSY, or FAILED where reasons are kept back, with the identifier and the users of the message received.
+    RejectOther,
+}
+
+// What a row does.
+pub struct Effect {
+    // The state afterwards.
+    pub to: State,
+    // The timers that it stops though the state stays.
+    pub stop: Timers,
+    // The timers that it starts.
+    pub start: Timers,
+    // Whether it adds 1 to the counter of a timer that it starts; else that counter is 1.
+    pub again: bool,
+    pub hold: Hold,
+    pub say: Say,
+}
+
+// A row that enters a state.
+fn enters(to: State, start: Timers, hold: Hold, say: Say) -> Effect
+    ensures { λ r. ⌜ r ≡ entersOf to start hold say ⌝ }
+{
+    Effect {
+        to: to,
+        stop: Timers::NONE,
+        start: start,
+        again: false,
+        hold: hold,
+        say: say,
+    }
+}
+
+// A row that leaves state and timers as they are.
+fn stays(state: State, hold: Hold, say: Say) -> Effect
+    ensures { λ r. ⌜ r ≡ staysOf state hold say ⌝ }
+{
+    Effect {
+        to: state,
+        stop: Timers::NONE,
+        start: Timers::NONE,
+        again: false,
+        hold: hold,
+        say: say,
+    }
+}
+
+// A row that says again what got no reply.
+fn repeats(state: State, start: Timers, say: Say) -> Effect
+    ensures { λ r. ⌜ r ≡ repeatsOf state start say ⌝ }
+{
+    Effect {
+        to: state,
+        stop: Timers::NONE,
+        start: start,
+        again: true,
+        hold: Hold::Keep,
+        say: say,
+    }
+}
+
+// A row that puts one timer in another's place.
+fn turns(state: State, stop: Timers, start: Timers, say: Say) -> Effect
+    ensures { λ r. ⌜ r ≡ turnsOf state stop start say ⌝ }
+{
+    Effect {
+        to: state,
+        stop: stop,
+        start: start,
+        again: false,
+        hold: Hold::Keep,
+        say: say,
+    }
+}
+
+// The reasons by their numbers.
+pub(crate) fn reason_number(reason: Reason) -> u8
+    ensures { λ r. ⌜ r ≡ reasonNumber reason ⌝ }
+{
+    match reason {
+        Reason::Reject => 0,
+        Reason::MediaFailure => 1,
+        Reason::Busy => 2,
+        Reason::SecurityFailure => 3,
+        Reason::Failed => 4,
+    }
+}
+
+// The table of the rows.
+pub(crate) fn effect_of(row: Row, state: State) -> Effect
+    ensures { λ r. ⌜ r ≡ effectOf row state ⌝ }
+{
+    match row {
+        Row::Discard => stays(state, Hold::Keep, Say::Nothing),
+        Row::R1 => enters(State::P2, Timers::TFP1, Hold::Request, Say::SetupRequest),
+        Row::R2 => repeats(state, Timers::TFP1, Say::SetupRequest),
+        Row::R3 => enters(State::P1, Timers::NONE, Hold::Keep, Say::Nothing),
+        Row::R4 => turns(state, Timers::TFP1, Timers::TFP2, Say::Nothing),
+        Row::R5 => enters(State::P4, Timers::TFP5, Hold::Media, Say::AcceptAck),
+        Row::R6 => enters(State::P1, Timers::NONE, Hold::Keep, Say::Nothing),
+        Row::R7 => enters(State::P1, Timers::NONE, Hold::Keep, Say::Nothing),
+        Row::R8 => enters(State::P3, Timers::TFP3, Hold::Keep, Say::Release),
+        Row::R9 => enters(State::P3, Timers::TFP3, Hold::Keep, Say::Release),
+        Row::R10 => repeats(state, Timers::TFP3, Say::Release),
+        Row::R11 => enters(State::P1, Timers::NONE, Hold::Keep, Say::Nothing),
+        Row::R12 => enters(State::P1, Timers::NONE, Hold::Keep, Say::Nothing),
+        Row::R13 => enters(State::P1, Timers::NONE, Hold::Keep, Say::ReleaseAck),
+        Row::R14 => stays(state, Hold::Keep, Say::ReleaseAck),
+        Row::R15 => enters(State::P1, Timers::NONE, Hold::Keep, Say::Nothing),
+        Row::R16 => repeats(state, Timers::TFP4, Say::Accept),
+        Row::R17 => enters(State::P1, Timers::NONE, Hold::Keep, Say::Nothing),
+        Row::R18 => enters(State::P4, Timers::TFP5, Hold::Keep, Say::Nothing),
+        Row::R19 => enters(
+            State::P1,
+            Timers::TFP7,
+            Hold::Request,
+            Say::Reject(Reason::MediaFailure),
+        ),
+        Row::R20 => enters(State::P5, Timers::TFP4, Hold::Request, Say::Accept),
+        Row::R21 => stays(state, Hold::Request, Say::Reject(Reason::SecurityFailure)),
+        Row::R22 => enters(State::P5, Timers::TFP2, Hold::Request, Say::Ringing),
+        Row::R23 => turns(state, Timers::TFP2, Timers::TFP4, Say::Accept),
+        Row::R24 => enters(
+            State::P1,
+            Timers::NONE,
+            Hold::Keep,
+            Say::Reject(Reason::SecurityFailure),
+        ),
+        Row::R25 => enters(
+            State::P1,
+            Timers::NONE,
+            Hold::Keep,
+            Say::Reject(Reason::Reject),
+        ),
+        Row::R26 => enters(
+            State::P1,
+            Timers::NONE,
+            Hold::Keep,
+            Say::Reject(Reason::Failed),
+        ),
+        Row::R27 => stays(state, Hold::Keep, Say::RejectOther),
+        Row::R28 => enters(State::P0, Timers::NONE, Hold::Clear, Say::Nothing),
+        Row::R29 => stays(state, Hold::Keep, Say::AcceptAck),
+    }
+}

@@ -16,10 +16,10 @@ use Rattle.private_rows.specs.Phases.{noTimer}
 use Rattle.private_rows.specs.Formed.{wellFormed}
 use Rattle.private_rows.specs.Causes.{sameIdentifier}
 use Rattle.private_rows.specs.Rows.{rowNumber, rowOf}
-use Rattle.private_rows.specs.Carried.{carryOut}
+use Rattle.private_effects.specs.Carried.{carryOut}
 use Rattle.private_rows.specs.declared.states.PrivateRecord.{PrivateRecord}
 use Rattle.private_rows.specs.declared.rows.Row.{Row}
-use Rattle.private_rows.specs.declared.Carried.{Carried}
+use Rattle.private_effects.specs.declared.Carried.{Carried}
 use Rattle.private_call.specs.declared.Stepped.{Stepped}
 
 -- ---- the number

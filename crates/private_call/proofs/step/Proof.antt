@@ -1,82 +1,92 @@
+-- `private_call::step` meets its contract: refused by a test, by R1 or by the writer, or carried out. Assumes nothing.
+use mathlib.Core.Path.{_≡_, sym, ap, _∙_}
+use mathlib.Core.Bool.{Bool, false}
+use Prim.Native.Nat.{ℕ}
+use Rattle.call.specs.Numbers.{numberBeforeRow}
+use Rattle.call.specs.Sending.{sendNumber, sendTold, sendBuffer}
+use Rattle.frame.specs.declared.Written.{Written}
+use Rattle.private_rows.specs.Formed.{wellFormed}
+use Rattle.private_rows.specs.Rows.{rowOf}
+use Rattle.private_rows.specs.declared.rows.Row.{Row}
+use Rattle.private_effects.specs.Carried.{carryOut}
+use Rattle.private_effects.specs.declared.Carried.{Carried}
+use Rattle.private_call.specs.Step.{identifierTaken, doneOf, refusedOf, movedOf}
+use Rattle.private_call.proofs.Answers.{refused-first, refused-taken, refused-sending, carried-out}
 use borrow.Author.Needs.{needs}
 use Rattle.private_call.proofs.step.Statement.{statement}
 use Rattle.private_call.proofs.step.Tie as tie
-use Rattle.private_call.proofs.step.Reads as reads
-use Rattle.private_call.proofs.step.Lts as lts
-use Rattle.call.proofs.number_before_row.Reads as number-before-row-reads
-use Rattle.call.proofs.write_sent.Reads as write-sent-reads
-use Rattle.private_call.proofs.carried.Reads as carried-reads
-use Rattle.private_call.proofs.identifier_taken.Reads as identifier-taken-reads
-use Rattle.private_call.proofs.refused.Reads as refused-reads
-use Rattle.private_rows.proofs.carry_out.Reads as carry-out-reads
-use Rattle.private_rows.proofs.row_of.Reads as row-of-reads
-use Rattle.private_rows.proofs.well_formed.Reads as well-formed-reads
 
-well-formed-requires : tie.Need-well-formed-requires
-well-formed-requires c κs = search needs
+-- the number before a row is looked for
+number : (c : tie.After-number-before-row) → let a = c .before .before .before .args in c .number-before-row .result ≡ numberBeforeRow (a .settings) (wellFormed (a .settings) (a .stored)) (a .input)
+number c =
+    let a = c .before .before .before .args in
+    c .number-before-row .ensures ∙ ap (λ (w : Bool). numberBeforeRow (a .settings) w (a .input)) (c .before .well-formed .ensures)
 
-number-before-row-requires : tie.Need-number-before-row-requires
-number-before-row-requires c κs = search needs
+-- whether R1 refuses
+taken : (c : tie.After-identifier-taken) → let a = c .before .before .before .before .before .before .args in c .identifier-taken .result
+    ≡ identifierTaken (a .settings) (a .stored) (a .input .event) (rowOf (a .settings) (a .stored) (a .input))
+taken c =
+    let a = c .before .before .before .before .before .before .args in
+    c .identifier-taken .ensures ∙ ap (λ (row : Row). identifierTaken (a .settings) (a .stored) (a .input .event) row) (c .before .row-of .ensures)
 
-refused-requires : tie.Need-refused-requires
-refused-requires c κs = search needs
+-- what is carried out
+done : (c : tie.After-carry-out) → let a = c .before .before .before .before .before .before .before .before .args in c .carry-out .result ≡ doneOf (a .settings) (a .stored) (a .input)
+done c =
+    let a = c .before .before .before .before .before .before .before .before .args in
+    c .carry-out .ensures ∙ ap (λ (row : Row). carryOut (a .settings) (a .stored) (a .input) row) (c .before .before .before .row-of .ensures)
+
+-- what the writer tells and leaves
+sent : (c : tie.After-write-sent) → let a = c .before .before .before .before .before .before .before .before .before .before .before .args in
+    let d = doneOf (a .settings) (a .stored) (a .input) in
+    (c .write-sent .result ≡ sendTold (d .sent) (d .next .call .media) (a .out .now)) × (c .write-sent .last .1 .1 .0 ≡ sendBuffer (d .sent) (d .next .call .media) (a .out .now))
+sent c =
+    let out = c .before .before .before .before .before .before .before .before .before .before .before .args .out .now in
+    let e = done (c .before .before .before) in (
+      c .write-sent .ensures .0 ∙ ap (λ (d : Carried). sendTold (d .sent) (d .next .call .media) out) e,
+      c .write-sent .ensures .1 ∙ ap (λ (d : Carried). sendBuffer (d .sent) (d .next .call .media) out) e,
+    )
 
 returns : tie.Need-returns
-returns c = ?
-
-row-of-requires : tie.Need-row-of-requires
-row-of-requires c κs = search needs
-
-identifier-taken-requires : tie.Need-identifier-taken-requires
-identifier-taken-requires c κs = search needs
-
-refused-requires-2 : tie.Need-refused-requires-2
-refused-requires-2 c κs = search needs
+returns c = rw (c .refused .ensures, number (c .before .before)) (refused-first _ _ _ _ (λ e. c .before .if1 .taken (number (c .before .before) ∙ e)))
 
 returns-2 : tie.Need-returns-2
-returns-2 c = ?
-
-carry-out-requires : tie.Need-carry-out-requires
-carry-out-requires c κs = search needs
-
-write-sent-requires : tie.Need-write-sent-requires
-write-sent-requires c κs = search needs
-
-refused-requires-3 : tie.Need-refused-requires-3
-refused-requires-3 c κs = search needs
-
-same-length : tie.Need-same-length
-same-length c = search needs
+returns-2 c =
+    let d = c .before .before in
+    rw (c .refused2 .ensures) (refused-taken _ _ _ _ (sym (number (d .before .before .before)) ∙ d .before .before .if1 .left) (sym (taken d) ∙ c .before .if2 .taken))
 
 returns-3 : tie.Need-returns-3
-returns-3 c = ?
-
-carried-requires : tie.Need-carried-requires
-carried-requires c κs = search needs
-
-same-length-2 : tie.Need-same-length-2
-same-length-2 c = search needs
+returns-3 c =
+    let w = c .before .before .before .before .before in
+    let d = w .before .before .before .before .before in
+    let n = sent w in
+    let r = refused-sending _ _ _ _ (sym (number (d .before .before .before)) ∙ d .before .before .if1 .left) (sym (taken d) ∙ w .before .before .before .before .if2 .left) (λ z. c .before .if3 .taken (ap (λ (x : Written). x .number) (n .0) ∙ z)) in
+    (c .refused3 .ensures ∙ ap (λ (x : Written). refusedOf (x .number) (d .before .before .before .before .before .before .args .stored)) (n .0) ∙ r .0, n .1 ∙ r .1)
 
 returns-4 : tie.Need-returns-4
-returns-4 c = ?
+returns-4 c =
+    let w = c .before .before .before .before .before in
+    let d = w .before .before .before .before .before in
+    let n = sent w in
+    let r = carried-out _ _ _ _ (sym (number (d .before .before .before)) ∙ d .before .before .if1 .left) (sym (taken d) ∙ w .before .before .before .before .if2 .left) (ap (λ (x : Written). x .number) (sym (n .0)) ∙ c .before .if3 .left) in
+    (rw (c .carried .ensures, done (w .before .before .before), d .before .row-of .ensures, n .0) (r .0), n .1 ∙ r .1)
 
 pub step-spec : {M : Type 1} → statement M
 step-spec =
     tie.close
     (tie.spec
-    well-formed-requires
-    number-before-row-requires
-    refused-requires
+    (λ c κs. search needs)
+    (λ c κs. search needs)
+    (λ c κs. search needs)
     returns
-    row-of-requires
-    identifier-taken-requires
-    refused-requires-2
+    (λ c κs. search needs)
+    (λ c κs. search needs)
+    (λ c κs. search needs)
     returns-2
-    carry-out-requires
-    write-sent-requires
-    refused-requires-3
-    same-length
+    (λ c κs. search needs)
+    (λ c κs. search needs)
+    (λ c κs. search needs)
+    (λ c. search needs)
     returns-3
-    carried-requires
-    same-length-2
+    (λ c κs. search needs)
+    (λ c. search needs)
     returns-4)

@@ -1,0 +1,82 @@
+-- The cases of a step: refused by a test, refused by the writer, carried out. Assumes nothing.
+use Prim.Native.Nat.{ℕ}
+use mathlib.Core.Path.{_≡_, refl, sym, ap, _∙_}
+use mathlib.Core.List.{List, [], _∷_}
+use mathlib.Core.Bool.{Bool, true, false, cond, not}
+use native.Mathlib.Omega.{arith}
+use lib.Dec.{eqb}
+use borrow.Author.Tests.{eq-eqb, ne-eqb}
+use Rattle.frame.specs.Number.{firstGiven}
+use Rattle.call.specs.Numbers.{numberBeforeRow}
+use Rattle.call.specs.Settings.{settingsGood}
+use Rattle.call.specs.Numbers.{messageGood, argumentsGood}
+use Rattle.call.specs.Sending.{sendNumber, sendTold, sendBuffer}
+use Rattle.call.specs.declared.Settings.{Settings}
+use Rattle.call.specs.declared.Input.{Input}
+use Rattle.private_rows.specs.Formed.{wellFormed}
+use Rattle.private_rows.specs.Rows.{rowOf}
+use Rattle.private_rows.specs.declared.states.PrivateRecord.{PrivateRecord}
+use Rattle.private_call.specs.Step.{identifierTaken, numberBeforeSending, doneOf, stepLine, stepNumber, refusedOf, movedOf, stepOf, stepBuffer}
+use Rattle.private_call.specs.declared.Stepped.{Stepped}
+
+-- a fifth test is asked where the first four give 0
+fifth : (a b c d t : Bool) → firstGiven ((7, a) ∷ (9, b) ∷ (5, c) ∷ (8, d) ∷ (8, t) ∷ [])
+    ≡ cond (eqb (firstGiven ((7, a) ∷ (9, b) ∷ (5, c) ∷ (8, d) ∷ [])) 0) (cond t 8 0) (firstGiven ((7, a) ∷ (9, b) ∷ (5, c) ∷ (8, d) ∷ []))
+fifth true b c d t = refl
+fifth false true c d t = refl
+fifth false false true d t = refl
+fifth false false false true t = refl
+fifth false false false false t = refl
+
+module _ (s : Settings) (p : PrivateRecord) (i : Input) (out : List ℕ) where
+  -- the number before a row is looked for
+  abbrev before : ℕ
+  before = numberBeforeRow s (wellFormed s p) i
+
+  -- the 8 of R1
+  abbrev taken : Bool
+  taken = identifierTaken s p (i .event) (rowOf s p i)
+
+  -- the writer's number
+  abbrev writers : ℕ
+  writers = sendNumber (doneOf s p i .sent) (doneOf s p i .next .call .media) out
+
+  -- an answer and a buffer are those of the step
+  abbrev pub Answers : Stepped → List ℕ → Type 0
+  Answers r after = (r ≡ stepOf s p i out) × (after ≡ stepBuffer s p i out)
+
+  -- the number before sending, in its two parts
+  parts : numberBeforeSending s p i ≡ cond (eqb before 0) (cond taken 8 0) before
+  unfolding numberBeforeRow
+  parts =
+      fifth (not (settingsGood s)) (not (wellFormed s p)) (not (messageGood (i .event) (i .media)))
+      (not (argumentsGood s (i .event) (i .media))) taken
+
+  -- a number that is not 0 refuses
+  refuses : (n : ℕ) → stepNumber s p i out ≡ n → (n ≡ 0 → ⊥) → Answers (refusedOf n p) out
+  unfolding stepOf stepBuffer
+  refuses n e f = rw (e, ne-eqb n 0 f) (refl, refl)
+
+  -- refused before a row is looked for
+  pub refused-first : (before ≡ 0 → ⊥) → Answers (refusedOf before p) out
+  refused-first f = refuses before (rw (parts, ne-eqb before 0 f, ne-eqb before 0 f)) f
+
+  -- refused by R1
+  pub refused-taken : before ≡ 0 → taken ≡ true → Answers (refusedOf 8 p) out
+  refused-taken e t = refuses 8 (rw (parts, eq-eqb before 0 e, t)) (λ z. omega arith)
+
+  -- past the tests the writer has its say
+  pub past-tests : before ≡ 0 → taken ≡ false → stepNumber s p i out ≡ writers
+  past-tests e t = rw (parts, eq-eqb before 0 e, t)
+
+  -- refused by the writer
+  pub refused-sending : before ≡ 0 → taken ≡ false → (writers ≡ 0 → ⊥)
+      → Answers (refusedOf writers p) (sendBuffer (doneOf s p i .sent) (doneOf s p i .next .call .media) out)
+  refused-sending e t f = rw (ne-eqb writers 0 f) (refuses writers (past-tests e t) f)
+
+  -- carried out
+  pub carried-out : before ≡ 0 → taken ≡ false → writers ≡ 0
+      → Answers (movedOf (rowOf s p i) (doneOf s p i) (sendTold (doneOf s p i .sent) (doneOf s p i .next .call .media) out .length))
+      (sendBuffer (doneOf s p i .sent) (doneOf s p i .next .call .media) out)
+  unfolding stepOf stepBuffer
+  carried-out e t w = rw (past-tests e t, w) (refl, refl)

@@ -135,25 +135,25 @@ sentOf s Say.RejectOther call other = Send.Message (Reject other (reasonOr s Rea
 
 -- ---- the whole
 
--- the timers that are started, that are stopped, and that run afterwards, by what a row does
-abbrev pub startedBy : PrivateRecord → Effect → Timers
-startedBy p x = startedOf (p .state) (x .to) (x .start)
+-- the timers that a row starts in a state
+abbrev pub startedBy : State → Effect → Timers
+startedBy state x = startedOf state (x .to) (x .start)
 
--- the timers stopped
-abbrev pub stoppedBy : PrivateRecord → Timers → Effect → Timers
-stoppedBy p out x = stoppedOf (changes (p .state) (x .to)) (x .stop) (p .running) (startedBy p x) out
+-- the timers that it stops where these run
+abbrev pub stoppedBy : State → Timers → Timers → Effect → Timers
+stoppedBy state was out x = stoppedOf (changes state (x .to)) (x .stop) was (startedBy state x) out
 
 -- the timers that run afterwards
-abbrev pub runningBy : PrivateRecord → Timers → Effect → Timers
-runningBy p out x = runningAfter (p .running) (stoppedBy p out x) out (startedBy p x)
+abbrev pub runningBy : State → Timers → Timers → Effect → Timers
+runningBy state was out x = runningAfter was (stoppedBy state was out x) out (startedBy state x)
 
 -- the next record
 abbrev pub nextBy : Settings → PrivateRecord → Timers → Request → Media → Effect → PrivateRecord
 nextBy s p out r media x =
     record {
       state = x .to;
-      running = runningBy p out x;
-      counters = countersAfter (runningBy p out x) (startedBy p x) (x .again) (s .limits) (p .counters);
+      running = runningBy (p .state) (p .running) out x;
+      counters = countersAfter (runningBy (p .state) (p .running) out x) (startedBy (p .state) x) (x .again) (s .limits) (p .counters);
       call = heldOf (x .hold) (p .call) r media;
     }
 
@@ -162,8 +162,8 @@ abbrev pub carriedBy : Settings → PrivateRecord → Timers → Request → Med
 carriedBy s p out r media x =
     record {
       next = nextBy s p out r media x;
-      stop = stoppedBy p out x;
-      start = startedBy p x;
+      stop = stoppedBy (p .state) (p .running) out x;
+      start = startedBy (p .state) x;
       sent = sentOf s (x .say) (heldOf (x .hold) (p .call) r media) (r .parties);
     }
 

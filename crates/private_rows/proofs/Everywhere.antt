@@ -10,7 +10,7 @@ use Rattle.private_rows.specs.declared.causes.Cause.{Cause}
 use Rattle.private_rows.specs.declared.causes.Facts.{Facts}
 
 -- each of a list of tests
-abbrev each : List Bool → Bool
+abbrev pub each : List Bool → Bool
 each [] = true
 each (b ∷ bs) = b && each bs
 
@@ -21,11 +21,11 @@ nth (b ∷ bs) zero t = and-split b (each bs) t .0
 nth (b ∷ bs) (suc k) t = nth bs k (and-split b (each bs) t .1)
 
 -- of both Bools
-abbrev bothBools : (Bool → Bool) → Bool
+abbrev pub bothBools : (Bool → Bool) → Bool
 bothBools q = each (q true ∷ q false ∷ [])
 
 -- of one
-at-bool : (q : Bool → Bool) → bothBools q ≡ true → (b : Bool) → q b ≡ true
+pub at-bool : (q : Bool → Bool) → bothBools q ≡ true → (b : Bool) → q b ≡ true
 at-bool q t true = nth (q true ∷ q false ∷ []) 0 t
 at-bool q t false = nth (q true ∷ q false ∷ []) 1 t
 

@@ -1,2 +1,3 @@
 pub mod Everywhere
 pub mod Meets
+pub mod WellFormed

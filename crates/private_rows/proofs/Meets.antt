@@ -64,3 +64,8 @@ finds f c x = eqb (rowNumber (foundAt (atOf f) c x)) (rowNumber (firstMet (rowsA
 pub found-is-met : (f : Phase) (c : Cause) (x : Facts) → foundAt (atOf f) c x ≡ rowIn f c x
 unfolding rowIn
 found-is-met f c x = same-row (foundAt (atOf f) c x) (firstMet (rowsAsk f c x)) (anywhere finds refl f c x)
+
+-- what is computed of the row found, everywhere, holds of the row met, anywhere
+pub each-row : (q : Phase → Cause → Row → Bool) → everywhere (λ f c x. q f c (foundAt (atOf f) c x)) ≡ true
+    → (f : Phase) (c : Cause) (x : Facts) → q f c (rowIn f c x) ≡ true
+each-row q t f c x = ap (q f c) (sym (found-is-met f c x)) ∙ anywhere (λ f c x. q f c (foundAt (atOf f) c x)) t f c x

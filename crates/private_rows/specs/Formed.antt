@@ -71,15 +71,19 @@ roleGood State.P3 caller callee = true
 roleGood State.P4 caller callee = true
 roleGood State.P5 caller callee = callee
 
--- the users: one of them is own, and it is the one that the state asks for
+-- one of the users is own, and it is the one that the state asks for
 abbrev pub usersGood : State → Bool → Bool → Bool
 usersGood state caller callee = oneOwn caller callee && roleGood state caller callee
+
+-- the users of a call
+abbrev pub usersOf : Settings → State → PrivateCall → Bool
+usersOf s state c = usersGood state (eqb (c .parties .caller) (s .«own_user»)) (eqb (c .parties .callee) (s .«own_user»))
 
 -- the identifier is 0 in P0 alone, and then every field is; otherwise every field is in range, and so are the users
 abbrev pub callGood : Settings → State → PrivateCall → Bool
 callGood s state c =
     cond (eqb (c .parties .identifier) 0) (eqb (stateNumber state) 0 && noCall c)
-    (fieldsGood c && usersGood state (eqb (c .parties .caller) (s .«own_user»)) (eqb (c .parties .callee) (s .«own_user»)))
+    (fieldsGood c && usersOf s state c)
 
 -- a record is well formed under the settings
 unfoldable pub wellFormed : Settings → PrivateRecord → Bool

@@ -1,0 +1,5 @@
+pub mod Brought
+pub mod Settling
+pub mod Counting
+pub mod Holding
+pub mod Keeping

@@ -3,3 +3,4 @@ pub mod Settling
 pub mod Counting
 pub mod Holding
 pub mod Keeping
+pub mod Discarding

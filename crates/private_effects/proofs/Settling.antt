@@ -3,11 +3,12 @@ use mathlib.Core.Path.{_≡_, refl}
 use mathlib.Core.Bool.{Bool, true, false, not, _&&_, _||_}
 use lib.Dec.{eqb}
 use Rattle.frame.proofs.Laws.{and-split}
-use Rattle.private_rows.specs.Phases.{stateNumber, stateOf, runningOf}
+use Rattle.private_rows.specs.Phases.{stateNumber, has, setOf, sameTimers, stateOf, runningOf}
 use Rattle.private_rows.specs.Formed.{runningGood, roleGood}
-use Rattle.private_rows.specs.Rows.{sameCause, rowIn}
+use Rattle.private_rows.specs.Rows.{rowNumber, sameCause, rowIn}
 use Rattle.private_rows.specs.declared.states.State.{State}
 use Rattle.private_rows.specs.declared.states.Phase.{Phase}
+use Rattle.private_rows.specs.declared.states.Timers.{Timers}
 use Rattle.private_rows.specs.declared.causes.Cause.{Cause}
 use Rattle.private_rows.specs.declared.causes.Facts.{Facts}
 use Rattle.private_rows.specs.declared.rows.Row.{Row}
@@ -76,17 +77,28 @@ maySay c to hold Say.RejectOther = bringsCall c
 abbrev pub says : Phase → Cause → Row → Bool
 says f c row = maySay c (effectOf row (stateOf f) .to) (effectOf row (stateOf f) .hold) (effectOf row (stateOf f) .say)
 
+-- ---- a discard
+
+-- the timers of a set without those of another
+abbrev pub less : Timers → Timers → Timers
+less was out = setOf (λ t. has was t && not (has out t))
+
+-- where no row is met no running timer ran out
+abbrev pub quiet : Phase → Cause → Row → Bool
+quiet f c row = not (eqb (rowNumber row) 0) || sameTimers (less (runningOf f) (outOf c)) (runningOf f)
+
 -- ---- the test
 
--- all three
+-- all four
 abbrev sound : Phase → Cause → Row → Bool
-sound f c row = settles f c row && (holds f c row && says f c row)
+sound f c row = settles f c row && (holds f c row && (says f c row && quiet f c row))
 
 -- what is so of every row that is met
 pub record Sound (f : Phase) (c : Cause) (row : Row) : Type 0 where
   pub timers : settles f c row ≡ true
   pub call : holds f c row ≡ true
   pub message : says f c row ≡ true
+  pub discard : quiet f c row ≡ true
 
 -- it is so of every row that is met
 pub rows-sound : (f : Phase) (c : Cause) (x : Facts) → Sound f c (rowIn f c x)
@@ -94,5 +106,6 @@ unfolding startedOf stoppedOf runningAfter
 rows-sound f c x =
     let row = rowIn f c x in
     let a = and-split (settles f c row) _ (each-row sound refl f c x) in
-    let b = and-split (holds f c row) (says f c row) (a .1) in
-    record { timers = a .0; call = b .0; message = b .1 }
+    let b = and-split (holds f c row) _ (a .1) in
+    let d = and-split (says f c row) (quiet f c row) (b .1) in
+    record { timers = a .0; call = b .0; message = d .0; discard = d .1 }

@@ -1,5 +1,5 @@
 // What carrying out a row of the private call machine gives.
-mod effects;
+pub mod effects;
 mod settled;
 
 ghost use mathlib.Core.Path.{_≡_};

@@ -21,11 +21,11 @@ use Rattle.private_rows.specs.declared.states.State.{State}
 use Rattle.private_rows.specs.declared.states.PrivateCall.{PrivateCall}
 use Rattle.private_rows.specs.declared.causes.Cause.{Cause}
 use Rattle.private_rows.proofs.Everywhere.{bothBools, at-bool}
 use Rattle.private_effects.specs.Carried.{callOf, withMedia, heldOf}
 use Rattle.private_effects.specs.declared.effects.Hold.{Hold}
-use Rattle.private_effects.proofs.Brought.{New, Brings, bringsCall, bringsMedia}
-use Rattle.private_effects.proofs.Settling.{startStop, mayStay, mayHold}
-use Rattle.private_effects.proofs.Counting.{both}
+use Rattle.private_call.proofs.Brought.{New, Brings, bringsCall, bringsMedia}
+use Rattle.private_call.proofs.Settling.{startStop, mayStay, mayHold}
+use Rattle.private_call.proofs.Counting.{both}
 
 -- ---- the fields
 

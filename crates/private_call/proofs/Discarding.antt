@@ -20,11 +20,11 @@ use Rattle.private_rows.specs.declared.causes.Cause.{Cause}
 use Rattle.private_rows.specs.declared.rows.Row.{Row}
 use Rattle.private_rows.specs.declared.rows.Row.the-variants.{Discard}
 use Rattle.private_rows.proofs.WellFormed.{same-timers, Fit}
 use Rattle.private_effects.specs.Effects.{effectOf}
 use Rattle.private_effects.specs.Carried.{ranOut, changes, startedOf, stoppedOf, runningAfter, counterAfter, countersAfter, startedBy, stoppedBy, runningBy, carryOut}
 use Rattle.private_effects.specs.declared.Carried.{Carried}
-use Rattle.private_effects.proofs.Brought.{outOf, ran-out-of}
-use Rattle.private_effects.proofs.Settling.{less, Sound, rows-sound}
+use Rattle.private_call.proofs.Brought.{outOf, ran-out-of}
+use Rattle.private_call.proofs.Settling.{less, Sound, rows-sound}
 
 -- nothing carried out
 abbrev pub nothing : PrivateRecord → Carried

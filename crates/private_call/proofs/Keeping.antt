@@ -31,16 +31,16 @@ use Rattle.private_rows.specs.declared.states.PrivateRecord.{PrivateRecord}
 use Rattle.private_rows.specs.declared.causes.Cause.{Cause}
 use Rattle.private_rows.specs.declared.rows.Row.{Row}
 use Rattle.private_rows.proofs.WellFormed.{Fit, fit}
 use Rattle.private_effects.specs.Effects.{reasonNumber, effectOf}
 use Rattle.private_effects.specs.Carried.{ranOut, runningBy, stoppedBy, startedBy, callOf, heldOf, reasonOr, sentOf, carryOut}
 use Rattle.private_effects.specs.declared.effects.Hold.{Hold}
 use Rattle.private_effects.specs.declared.effects.Reason.{Reason}
 use Rattle.private_effects.specs.declared.effects.Say.{Say}
 use Rattle.private_effects.specs.declared.effects.Effect.{Effect}
-use Rattle.private_effects.proofs.Brought.{outOf, ran-out-of, Brings, brings, bringsCall}
-use Rattle.private_effects.proofs.Settling.{startStop, mayHold, holdsOne, maySay, Sound, rows-sound}
-use Rattle.private_effects.proofs.Counting.{both, counters-keep}
-use Rattle.private_effects.proofs.Holding.{ranged, split, fields, held-good, one-held}
+use Rattle.private_call.proofs.Brought.{outOf, ran-out-of, Brings, brings, bringsCall}
+use Rattle.private_call.proofs.Settling.{startStop, mayHold, holdsOne, maySay, Sound, rows-sound}
+use Rattle.private_call.proofs.Counting.{both, counters-keep}
+use Rattle.private_call.proofs.Holding.{ranged, split, fields, held-good, one-held}
 
 -- ---- what is sent
 

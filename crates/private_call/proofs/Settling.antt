@@ -14,11 +14,11 @@ use Rattle.private_rows.specs.declared.causes.Facts.{Facts}
 use Rattle.private_rows.specs.declared.rows.Row.{Row}
 use Rattle.private_rows.proofs.Everywhere.{bothBools}
 use Rattle.private_rows.proofs.Meets.{each-row}
 use Rattle.private_effects.specs.Effects.{effectOf}
 use Rattle.private_effects.specs.Carried.{startedOf, stoppedOf, runningAfter, runningBy}
 use Rattle.private_effects.specs.declared.effects.Hold.{Hold}
 use Rattle.private_effects.specs.declared.effects.Say.{Say}
-use Rattle.private_effects.proofs.Brought.{outOf, bringsCall, bringsMedia}
+use Rattle.private_call.proofs.Brought.{outOf, bringsCall, bringsMedia}
 
 -- ---- the timers
 

@@ -1,0 +1,110 @@
+-- A step keeps the record well formed, its timers agree, and what it sends is in range. Assumes nothing.
+use Prim.Native.Nat.{ℕ, _+_, _<_, _≤_}
+use mathlib.Core.Path.{_≡_, refl, sym, ap, _∙_, subst}
+use mathlib.Core.List.{List, [], _∷_, _++_}
+use mathlib.Core.Bool.{Bool, true, false, cond, not}
+use native.Mathlib.Omega.{arith}
+use lib.ListN.{length}
+use lib.Dec.{ltb, eqb}
+use borrow.Author.Tests.{eq-eqb, eqb-true, eqb-false}
+use Rattle.frame.specs.Number.{firstGiven}
+use Rattle.frame.specs.Frame.{inRange}
+use Rattle.frame.specs.Lent.{lentAfter}
+use Rattle.frame.specs.Layout.{lineOf}
+use Rattle.frame.specs.Writing.{writeNumber}
+use Rattle.frame.specs.declared.Media.{Media}
+use Rattle.frame.specs.declared.Message.{Message}
+use Rattle.frame.proofs.Laws.{passed}
+use Rattle.call.specs.Settings.{settingsGood}
+use Rattle.call.specs.Numbers.{messageGood, argumentsGood}
+use Rattle.call.specs.Sending.{lineSent, sendNumber}
+use Rattle.call.specs.declared.Settings.{Settings}
+use Rattle.call.specs.declared.Input.{Input}
+use Rattle.call.specs.declared.Send.{Send}
+use Rattle.private_rows.specs.Formed.{wellFormed}
+use Rattle.private_rows.specs.Rows.{rowOf}
+use Rattle.private_rows.specs.declared.states.PrivateRecord.{PrivateRecord}
+use Rattle.private_rows.specs.declared.rows.Row.{Row}
+use Rattle.private_rows.specs.declared.rows.Row.the-variants.{Discard}
+use Rattle.private_rows.proofs.WellFormed.{Fit, fit}
+use Rattle.private_effects.specs.Carried.{ranOut, runningAfter, carryOut}
+use Rattle.private_effects.specs.declared.Carried.{Carried}
+use Rattle.private_call.proofs.Keeping.{SentGood, Taken, carried-well-formed, carried-sends-good}
+use Rattle.private_call.proofs.Discarding.{nothing, carried-nothing}
+use Rattle.private_call.specs.declared.Stepped.{Stepped}
+use Rattle.private_call.specs.Step.{identifierTaken, stepTests, numberBeforeSending, doneOf, stepLine, stepNumber, refusedOf, movedOf, discarded, stepOf, stepBuffer}
+
+-- ---- what a number 0 shows
+
+-- a test that passes holds
+holds : (b : Bool) → not b ≡ false → b ≡ true
+holds true e = refl
+holds false e = sym e
+
+module _ (s : Settings) (p : PrivateRecord) (i : Input) where
+  -- the tests passed
+  pub tests-passed : numberBeforeSending s p i ≡ 0 → Taken s p i × (identifierTaken s p (i .event) (rowOf s p i) ≡ false)
+  tests-passed e =
+      let a = passed (not (settingsGood s)) 7 _ (omega arith) e in
+      let b = passed (not (wellFormed s p)) 9 _ (omega arith) (a .1) in
+      let c = passed (not (messageGood (i .event) (i .media))) 5 _ (omega arith) (b .1) in
+      let d = passed (not (argumentsGood s (i .event) (i .media))) 8 _ (omega arith) (c .1) in
+      let f = passed (identifierTaken s p (i .event) (rowOf s p i)) 8 0 (omega arith) (d .1) in
+      (record { settings = holds _ (a .0); formed = holds _ (b .0); message = holds _ (c .0); arguments = holds _ (d .0) }, f .0)
+
+  -- a number 0 of a step passed the tests, and then the writer's is 0
+  pub step-passed : (out : List ℕ) → stepNumber s p i out ≡ 0
+      → (numberBeforeSending s p i ≡ 0) × (sendNumber (doneOf s p i .sent) (doneOf s p i .next .call .media) out ≡ 0)
+  step-passed out e = go (numberBeforeSending s p i) (sendNumber (doneOf s p i .sent) (doneOf s p i .next .call .media) out) e
+    where
+      pick : (b : Bool) (n w : ℕ) → eqb n 0 ≡ b → cond b w n ≡ 0 → (n ≡ 0) × (w ≡ 0)
+      pick true n w t h = (eqb-true n 0 t, h)
+      pick false n w t h = absurd (eqb-false n 0 t h)
+
+      go : (n w : ℕ) → cond (eqb n 0) w n ≡ 0 → (n ≡ 0) × (w ≡ 0)
+      go n w h = pick (eqb n 0) n w refl h
+
+  -- ---- keeps-well-formed
+
+  -- the record after a step from good settings and a well-formed record is well formed
+  pub keeps-well-formed : (out : List ℕ) → settingsGood s ≡ true → wellFormed s p ≡ true → wellFormed s (stepOf s p i out .next) ≡ true
+  unfolding stepOf
+  keeps-well-formed out g w = go (eqb (stepNumber s p i out) 0) refl
+    where
+      go : (b : Bool) → eqb (stepNumber s p i out) 0 ≡ b → wellFormed s (cond b (movedOf (rowOf s p i) (doneOf s p i) (length (stepLine s p i))) (refusedOf (stepNumber s p i out) p) .next) ≡ true
+      go true t = carried-well-formed s p i (tests-passed (step-passed out (eqb-true _ 0 t) .0) .0)
+      go false t = w
+
+  -- ---- sends-good
+
+  -- what a step sends is in range
+  pub sends-good : numberBeforeSending s p i ≡ 0 → SentGood (doneOf s p i .sent) (doneOf s p i .next .call .media)
+  sends-good e = carried-sends-good s p i (tests-passed e .0)
+
+  -- ---- timers-agree
+
+  -- what runs after a step that is not refused is what ran before, without what was stopped and what ran out, and what was started
+  pub timers-agree : (out : List ℕ) → stepNumber s p i out ≡ 0
+      → stepOf s p i out .next .running ≡ runningAfter (p .running) (stepOf s p i out .stop) (ranOut (i .event)) (stepOf s p i out .start)
+  unfolding stepOf carryOut
+  timers-agree out e = rw (eq-eqb _ _ e) refl
+
+-- ---- a discard
+
+-- the answer by the number before sending, the row, and what is carried out
+abbrev stepFrom : PrivateRecord → List ℕ → ℕ → Row → Carried → Stepped
+stepFrom p out n row d =
+    let w = cond (eqb n 0) (sendNumber (d .sent) (d .next .call .media) out) n in
+    cond (eqb w 0) (movedOf row d (length (lineSent (d .sent) (d .next .call .media)))) (refusedOf w p)
+
+-- the buffer by the same
+abbrev bufferFrom : List ℕ → ℕ → Carried → List ℕ
+bufferFrom out n d = lentAfter (cond (eqb n 0) (sendNumber (d .sent) (d .next .call .media) out) n) (lineSent (d .sent) (d .next .call .media)) out
+
+-- an event that meets no row and is not refused changes nothing
+pub discards : (s : Settings) (p : PrivateRecord) (i : Input) (out : List ℕ) → numberBeforeSending s p i ≡ 0 → rowOf s p i ≡ Discard
+    → (stepOf s p i out ≡ discarded p) × (stepBuffer s p i out ≡ out)
+unfolding stepOf stepBuffer
+discards s p i out e r =
+    let d = carried-nothing s p i (fit s p (tests-passed s p i e .0 .formed)) r in
+    (λ j. stepFrom p out (e j) (r j) (d j), λ j. bufferFrom out (e j) (d j))

@@ -1,6 +1,0 @@
-pub mod Brought
-pub mod Settling
-pub mod Counting
-pub mod Holding
-pub mod Keeping
-pub mod Discarding

@@ -6,3 +6,5 @@ pub mod Holding
 pub mod Keeping
 pub mod Discarding
 pub mod Steps
+pub mod NumberTable
+pub mod MarkedSteps

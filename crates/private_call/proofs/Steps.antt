@@ -92,7 +92,7 @@ module _ (s : Settings) (p : PrivateRecord) (i : Input) where
 -- ---- a discard
 
 -- the answer by the number before sending, the row, and what is carried out
-abbrev stepFrom : PrivateRecord → List ℕ → ℕ → Row → Carried → Stepped
+abbrev pub stepFrom : PrivateRecord → List ℕ → ℕ → Row → Carried → Stepped
 stepFrom p out n row d =
     let w = cond (eqb n 0) (sendNumber (d .sent) (d .next .call .media) out) n in
     cond (eqb w 0) (movedOf row d (length (lineSent (d .sent) (d .next .call .media)))) (refusedOf w p)

@@ -5,6 +5,7 @@ use mathlib.Core.List.{List, [], _∷_}
 use mathlib.Core.Bool.{Bool, true, false, _&&_}
 use lib.ListN.{getD}
 use Rattle.frame.proofs.Laws.{and-split}
+use Rattle.call.specs.declared.PrivateTimer.{PrivateTimer}
 use Rattle.private_rows.specs.declared.states.Phase.{Phase}
 use Rattle.private_rows.specs.declared.causes.Cause.{Cause}
 use Rattle.private_rows.specs.declared.causes.Facts.{Facts}
@@ -33,8 +34,12 @@ at-bool q t false = nth (q true ∷ q false ∷ []) 1 t
 abbrev phaseTests : (Phase → Bool) → List Bool
 phaseTests q = q Phase.P0 ∷ q Phase.P1 ∷ q Phase.P2Tfp1 ∷ q Phase.P2Tfp2 ∷ q Phase.P3 ∷ q Phase.P4 ∷ q Phase.P5Tfp2 ∷ q Phase.P5Tfp4 ∷ []
 
+-- at once
+abbrev pub everyPhase : (Phase → Bool) → Bool
+everyPhase q = each (phaseTests q)
+
 -- of one
-at-phase : (q : Phase → Bool) → each (phaseTests q) ≡ true → (f : Phase) → q f ≡ true
+pub at-phase : (q : Phase → Bool) → everyPhase q ≡ true → (f : Phase) → q f ≡ true
 at-phase q t Phase.P0 = nth (phaseTests q) 0 t
 at-phase q t Phase.P1 = nth (phaseTests q) 1 t
 at-phase q t Phase.P2Tfp1 = nth (phaseTests q) 2 t
@@ -43,6 +48,24 @@ at-phase q t Phase.P3 = nth (phaseTests q) 4 t
 at-phase q t Phase.P4 = nth (phaseTests q) 5 t
 at-phase q t Phase.P5Tfp2 = nth (phaseTests q) 6 t
 at-phase q t Phase.P5Tfp4 = nth (phaseTests q) 7 t
+
+-- of every timer
+abbrev timerTests : (PrivateTimer → Bool) → List Bool
+timerTests q =
+    q PrivateTimer.Tfp1 ∷ q PrivateTimer.Tfp2 ∷ q PrivateTimer.Tfp3 ∷ q PrivateTimer.Tfp4 ∷ q PrivateTimer.Tfp5 ∷ q PrivateTimer.Tfp7 ∷ []
+
+-- at once
+abbrev pub everyTimer : (PrivateTimer → Bool) → Bool
+everyTimer q = each (timerTests q)
+
+-- of one
+pub at-timer : (q : PrivateTimer → Bool) → everyTimer q ≡ true → (t : PrivateTimer) → q t ≡ true
+at-timer q t PrivateTimer.Tfp1 = nth (timerTests q) 0 t
+at-timer q t PrivateTimer.Tfp2 = nth (timerTests q) 1 t
+at-timer q t PrivateTimer.Tfp3 = nth (timerTests q) 2 t
+at-timer q t PrivateTimer.Tfp4 = nth (timerTests q) 3 t
+at-timer q t PrivateTimer.Tfp5 = nth (timerTests q) 4 t
+at-timer q t PrivateTimer.Tfp7 = nth (timerTests q) 5 t
 
 -- of every cause
 abbrev causeTests : (Cause → Bool) → List Bool
@@ -115,7 +138,7 @@ at-facts q t x =
 
 -- a test of everything
 abbrev pub everywhere : (Phase → Cause → Facts → Bool) → Bool
-everywhere q = each (phaseTests (λ f. each (causeTests (λ c. everyFacts (q f c)))))
+everywhere q = everyPhase (λ f. each (causeTests (λ c. everyFacts (q f c))))
 
 -- and what it shows
 pub anywhere : (q : Phase → Cause → Facts → Bool) → everywhere q ≡ true → (f : Phase) (c : Cause) (x : Facts) → q f c x ≡ true

@@ -2,18 +2,20 @@
 use Prim.Native.Nat.{ℕ}
 use mathlib.Core.Path.{_≡_, refl, sym, ap, _∙_}
 use mathlib.Core.List.{List, [], _∷_}
-use mathlib.Core.Bool.{Bool, true, not, _&&_, _||_}
+use mathlib.Core.Bool.{Bool, true, false, _||_, true≢false}
 use lib.ListN.{getD}
 use lib.Dec.{eqb}
 use borrow.Author.Tests.{eqb-true}
-use Rattle.private_rows.specs.Rows.{rowNumber, rowIn, rowsAsk, firstMet}
+use Rattle.call.specs.declared.PrivateTimer.{PrivateTimer}
+use Rattle.private_rows.specs.Causes.{privateTimerCause}
+use Rattle.private_rows.specs.Rows.{rowNumber, runs, rowIn, rowsAsk, firstMet}
 use Rattle.private_rows.specs.Found.{atOf, foundAt}
 use Rattle.private_rows.specs.declared.states.Phase.{Phase}
 use Rattle.private_rows.specs.declared.causes.Cause.{Cause}
 use Rattle.private_rows.specs.declared.causes.Facts.{Facts}
 use Rattle.private_rows.specs.declared.rows.Row.{Row}
 use Rattle.private_rows.specs.declared.rows.Row.the-variants.{Discard, R1, R2, R3, R4, R5, R6, R7, R8, R9, R10, R11, R12, R13, R14, R15, R16, R17, R18, R19, R20, R21, R22, R23, R24, R25, R26, R27, R28, R29}
-use Rattle.private_rows.proofs.Everywhere.{everywhere, anywhere}
+use Rattle.private_rows.proofs.Everywhere.{everyPhase, at-phase, everyTimer, at-timer, everywhere, anywhere}
 
 -- the rows in the order of their numbers
 abbrev rows : List Row
@@ -69,3 +71,21 @@ found-is-met f c x = same-row (foundAt (atOf f) c x) (firstMet (rowsAsk f c x)) 
 pub each-row : (q : Phase → Cause → Row → Bool) → everywhere (λ f c x. q f c (foundAt (atOf f) c x)) ≡ true
     → (f : Phase) (c : Cause) (x : Facts) → q f c (rowIn f c x) ≡ true
 each-row q t f c x = ap (q f c) (sym (found-is-met f c x)) ∙ anywhere (λ f c x. q f c (foundAt (atOf f) c x)) t f c x
+
+-- ---- the expiry of a timer that does not run
+
+-- in any phase, whatever the facts are
+quiet-test : (x : Facts) → everyPhase (λ f. everyTimer (λ t. runs t f || eqb (rowNumber (foundAt (atOf f) (privateTimerCause t) x)) 0)) ≡ true
+quiet-test x = refl
+
+-- the expiry of a timer that does not run meets no row
+pub quiet-expiry : (t : PrivateTimer) (f : Phase) (x : Facts) → runs t f ≡ false → rowIn f (privateTimerCause t) x ≡ Discard
+quiet-expiry t f x h =
+    let row = foundAt (atOf f) (privateTimerCause t) x in
+    let e = at-timer (λ t. runs t f || eqb (rowNumber (foundAt (atOf f) (privateTimerCause t) x)) 0)
+        (at-phase (λ f. everyTimer (λ t. runs t f || eqb (rowNumber (foundAt (atOf f) (privateTimerCause t) x)) 0)) (quiet-test x) f) t in
+    sym (found-is-met f (privateTimerCause t) x) ∙ same-row row Discard (other (runs t f) (eqb (rowNumber row) 0) h e)
+  where
+    other : (a b : Bool) → a ≡ false → (a || b) ≡ true → b ≡ true
+    other true b h e = absurd (true≢false h)
+    other false b h e = e

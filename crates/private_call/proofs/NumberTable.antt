@@ -1,0 +1,58 @@
+-- The number of a step is the first of a table: 7, 9, 5, 8, 6. Assumes nothing.
+use Prim.Native.Nat.{ℕ}
+use mathlib.Core.Path.{_≡_, refl, sym, _∙_}
+use mathlib.Core.List.{List, [], _∷_}
+use mathlib.Core.Bool.{Bool, true, false, cond, not, _||_}
+use native.Mathlib.Omega.{arith}
+use lib.ListN.{length}
+use lib.Dec.{ltb, eqb}
+use borrow.Author.Tests.{le-ltb}
+use Rattle.frame.specs.Number.{firstGiven}
+use Rattle.frame.specs.Frame.{inRange}
+use Rattle.frame.specs.Writing.{writeNumber}
+use Rattle.frame.specs.declared.Media.{Media}
+use Rattle.call.specs.Settings.{settingsGood}
+use Rattle.call.specs.Numbers.{messageGood, argumentsGood}
+use Rattle.call.specs.Sending.{lineSent, sendNumber}
+use Rattle.call.specs.declared.Settings.{Settings}
+use Rattle.call.specs.declared.Input.{Input}
+use Rattle.call.specs.declared.Send.{Send}
+use Rattle.private_rows.specs.Formed.{wellFormed}
+use Rattle.private_rows.specs.Rows.{rowOf}
+use Rattle.private_rows.specs.declared.states.PrivateRecord.{PrivateRecord}
+use Rattle.private_call.specs.Step.{identifierTaken, doneOf, stepLine, stepNumber}
+use Rattle.private_call.proofs.Keeping.{SentGood}
+use Rattle.private_call.proofs.Steps.{sends-good}
+
+-- the writer's number of what is in range: 6 where there is no room
+room-alone : (sent : Send) (media : Media) (out : List ℕ) → SentGood sent media
+    → sendNumber sent media out ≡ cond (ltb (length out) (length (lineSent sent media))) 6 0
+unfolding writeNumber
+room-alone Send.Nothing media out g = rw (le-ltb (length out) 0 (omega arith))
+room-alone (Send.Message m) media out g = rw g
+
+-- the 8 of R1 beside that of the arguments, and 6 last
+sixth : (a b c d t r : Bool) (w : ℕ) → (firstGiven ((7, a) ∷ (9, b) ∷ (5, c) ∷ (8, d) ∷ (8, t) ∷ []) ≡ 0 → w ≡ cond r 6 0)
+    → cond (eqb (firstGiven ((7, a) ∷ (9, b) ∷ (5, c) ∷ (8, d) ∷ (8, t) ∷ [])) 0) w (firstGiven ((7, a) ∷ (9, b) ∷ (5, c) ∷ (8, d) ∷ (8, t) ∷ []))
+    ≡ firstGiven ((7, a) ∷ (9, b) ∷ (5, c) ∷ (8, d || t) ∷ (6, r) ∷ [])
+sixth true b c d t r w h = refl
+sixth false true c d t r w h = refl
+sixth false false true d t r w h = refl
+sixth false false false true t r w h = refl
+sixth false false false false true r w h = refl
+sixth false false false false false r w h = h refl
+
+-- the tests of a step in the order of the table: a setting, the record, a field of a message, an argument or the identifier of R1, the room for the line
+abbrev pub tableTests : Settings → PrivateRecord → Input → List ℕ → List (ℕ × Bool)
+tableTests s p i out =
+    (7, not (settingsGood s)) ∷ (9, not (wellFormed s p)) ∷ (5, not (messageGood (i .event) (i .media)))
+    ∷ (8, not (argumentsGood s (i .event) (i .media)) || identifierTaken s p (i .event) (rowOf s p i))
+    ∷ (6, ltb (length out) (length (stepLine s p i))) ∷ []
+
+-- the number of a step is the first of them that is given: the writer's 5 never shows
+pub step-number : (s : Settings) (p : PrivateRecord) (i : Input) (out : List ℕ) → stepNumber s p i out ≡ firstGiven (tableTests s p i out)
+step-number s p i out =
+    sixth (not (settingsGood s)) (not (wellFormed s p)) (not (messageGood (i .event) (i .media)))
+    (not (argumentsGood s (i .event) (i .media))) (identifierTaken s p (i .event) (rowOf s p i)) (ltb (length out) (length (stepLine s p i)))
+    (sendNumber (doneOf s p i .sent) (doneOf s p i .next .call .media) out)
+    (λ e. room-alone (doneOf s p i .sent) (doneOf s p i .next .call .media) out (sends-good s p i e))

@@ -126,7 +126,7 @@ rowsAsk f c x =
     ∷ (R26, inP 5 f && expires PrivateTimer.Tfp2 f c)
     ∷ (R27, (inP 2 f || (inP 3 f || (inP 4 f || inP 5 f))) && (sameCause c Cause.SetupHeard && not (x .same)))
     ∷ (R28, inP 1 f && expires PrivateTimer.Tfp7 f c)
-    ∷ (R29, inP 4 f && (x .«own_caller» && same Cause.AcceptHeard c x))
+    ∷ (R29, inP 4 f && (same Cause.AcceptHeard c x && x .«own_caller»))
     ∷ []
 
 -- the first row of a list for which all that it asks holds; Discard where there is none

@@ -8,3 +8,5 @@ pub mod Discarding
 pub mod Steps
 pub mod NumberTable
 pub mod MarkedSteps
+pub mod OneCounter
+pub mod NoReply

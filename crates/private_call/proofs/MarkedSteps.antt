@@ -7,6 +7,7 @@ use native.Mathlib.Omega.{arith}
 use lib.ListN.{length}
 use lib.Dec.{eqb, ltb}
 use borrow.Author.Tests.{eq-eqb, eqb-true}
+use Rattle.frame.specs.Lent.{atFront}
 use Rattle.frame.specs.declared.Media.{Media}
 use Rattle.frame.proofs.Laws.{and-split}
 use Rattle.call.specs.Settings.{settingsGood}
@@ -36,6 +37,7 @@ use Rattle.private_effects.specs.declared.Carried.{Carried}
 use Rattle.private_call.specs.Step.{numberBeforeSending, doneOf, stepLine, refusedOf, discarded, movedOf, stepNumber, stepOf, stepBuffer}
 use Rattle.private_call.specs.declared.Stepped.{Stepped}
 use Rattle.private_call.specs.Running.{expiry, userAccepts}
+use Rattle.private_call.specs.NoReply.{Counter, cfp1, cfp3, cfp4, timerOf, phaseWhere}
 use Rattle.private_call.proofs.Steps.{stepFrom, tests-passed, step-passed, keeps-well-formed, discards}
 
 -- ---- a step by its row
@@ -51,6 +53,12 @@ carries s p i out row e r w = (λ j. stepFrom p out (e j) (r j) (carryOut s p i 
 pub next-done : (s : Settings) (p : PrivateRecord) (i : Input) (out : List ℕ) → stepNumber s p i out ≡ 0 → stepOf s p i out .next ≡ doneOf s p i .next
 unfolding stepOf
 next-done s p i out e = rw (eq-eqb (stepNumber s p i out) 0 e) refl
+
+-- the line of a step that is not refused
+pub line-done : (s : Settings) (p : PrivateRecord) (i : Input) (out : List ℕ) → stepNumber s p i out ≡ 0
+    → (stepOf s p i out .length ≡ length (stepLine s p i)) × (stepBuffer s p i out ≡ atFront (stepLine s p i) out)
+unfolding stepOf stepBuffer
+line-done s p i out e = rw (eq-eqb (stepNumber s p i out) 0 e) (refl, refl)
 
 -- a row above 0 is that of a step that is not refused
 pub row-met : (s : Settings) (p : PrivateRecord) (i : Input) (out : List ℕ) (row : Row) → (rowNumber row ≡ 0 → ⊥) → stepOf s p i out .row ≡ rowNumber row
@@ -136,16 +144,32 @@ second-accept s p media media' v v' out out' e =
 
 -- ---- the last expiry of TFP1
 
--- TFP1 runs in one phase alone
-tfp1-phase : (f : Phase) → runs PrivateTimer.Tfp1 f ≡ true → f ≡ Phase.P2Tfp1
-tfp1-phase Phase.P0 e = absurd (false≢true e)
-tfp1-phase Phase.P1 e = absurd (false≢true e)
-tfp1-phase Phase.P2Tfp1 e = refl
-tfp1-phase Phase.P2Tfp2 e = absurd (false≢true e)
-tfp1-phase Phase.P3 e = absurd (false≢true e)
-tfp1-phase Phase.P4 e = absurd (false≢true e)
-tfp1-phase Phase.P5Tfp2 e = absurd (false≢true e)
-tfp1-phase Phase.P5Tfp4 e = absurd (false≢true e)
+-- the timer of a counter runs in one phase alone
+pub counted-phase : (k : Counter) (f : Phase) → runs (timerOf k) f ≡ true → f ≡ phaseWhere k
+counted-phase cfp1 Phase.P0 e = absurd (false≢true e)
+counted-phase cfp1 Phase.P1 e = absurd (false≢true e)
+counted-phase cfp1 Phase.P2Tfp1 e = refl
+counted-phase cfp1 Phase.P2Tfp2 e = absurd (false≢true e)
+counted-phase cfp1 Phase.P3 e = absurd (false≢true e)
+counted-phase cfp1 Phase.P4 e = absurd (false≢true e)
+counted-phase cfp1 Phase.P5Tfp2 e = absurd (false≢true e)
+counted-phase cfp1 Phase.P5Tfp4 e = absurd (false≢true e)
+counted-phase cfp3 Phase.P0 e = absurd (false≢true e)
+counted-phase cfp3 Phase.P1 e = absurd (false≢true e)
+counted-phase cfp3 Phase.P2Tfp1 e = absurd (false≢true e)
+counted-phase cfp3 Phase.P2Tfp2 e = absurd (false≢true e)
+counted-phase cfp3 Phase.P3 e = refl
+counted-phase cfp3 Phase.P4 e = absurd (false≢true e)
+counted-phase cfp3 Phase.P5Tfp2 e = absurd (false≢true e)
+counted-phase cfp3 Phase.P5Tfp4 e = absurd (false≢true e)
+counted-phase cfp4 Phase.P0 e = absurd (false≢true e)
+counted-phase cfp4 Phase.P1 e = absurd (false≢true e)
+counted-phase cfp4 Phase.P2Tfp1 e = absurd (false≢true e)
+counted-phase cfp4 Phase.P2Tfp2 e = absurd (false≢true e)
+counted-phase cfp4 Phase.P3 e = absurd (false≢true e)
+counted-phase cfp4 Phase.P4 e = absurd (false≢true e)
+counted-phase cfp4 Phase.P5Tfp2 e = absurd (false≢true e)
+counted-phase cfp4 Phase.P5Tfp4 e = refl
 
 -- at the limit it meets R3
 last-row : (x : Facts) → x .under ≡ false → rowIn Phase.P2Tfp1 Cause.Tfp1Expires x ≡ R3
@@ -160,7 +184,7 @@ last-expiry s p media v out g w c l =
     let i = expiry PrivateTimer.Tfp1 media v in
     let f = fit s p w in
     let tfp1 = counted (p .running .tfp1) (and-split (counterGood (p .running .tfp1) (s .limits .cfp1) (p .counters .cfp1)) _ (f .counters) .0) in
-    let q = tfp1-phase (phaseOf p) (ap (λ (x : Timers). x .tfp1) (sym (f .running)) ∙ tfp1) in
+    let q = counted-phase cfp1 (phaseOf p) (ap (λ (x : Timers). x .tfp1) (sym (f .running)) ∙ tfp1) in
     let r = (λ j. rowIn (q j) Cause.Tfp1Expires (factsOf s (q j) (p .counters) (p .call) i)) ∙ last-row (factsOf s Phase.P2Tfp1 (p .counters) (p .call) i) (rw (c, l) refl) in
     ap (λ (x : Stepped). x .row) (carries s p i out R3 (expiry-taken s p PrivateTimer.Tfp1 media v g w (ap (λ (row : Row). eqb (rowNumber row) 1) r)) r refl)
   where

@@ -1,12 +1,12 @@
 -- The number of a step is the first of a table: 7, 9, 5, 8, 6. Assumes nothing.
-use Prim.Native.Nat.{ℕ}
-use mathlib.Core.Path.{_≡_, refl, sym, _∙_}
+use Prim.Native.Nat.{ℕ, _≤_}
+use mathlib.Core.Path.{_≡_, refl, ap, _∙_}
 use mathlib.Core.List.{List, [], _∷_}
 use mathlib.Core.Bool.{Bool, true, false, cond, not, _||_}
 use native.Mathlib.Omega.{arith}
 use lib.ListN.{length}
 use lib.Dec.{ltb, eqb}
-use borrow.Author.Tests.{le-ltb}
+use borrow.Author.Tests.{le-ltb, eq-eqb}
 use Rattle.frame.specs.Number.{firstGiven}
 use Rattle.frame.specs.Frame.{inRange}
 use Rattle.frame.specs.Writing.{writeNumber}
@@ -20,7 +20,7 @@ use Rattle.call.specs.declared.Send.{Send}
 use Rattle.private_rows.specs.Formed.{wellFormed}
 use Rattle.private_rows.specs.Rows.{rowOf}
 use Rattle.private_rows.specs.declared.states.PrivateRecord.{PrivateRecord}
-use Rattle.private_call.specs.Step.{identifierTaken, doneOf, stepLine, stepNumber}
+use Rattle.private_call.specs.Step.{identifierTaken, numberBeforeSending, doneOf, stepLine, stepNumber}
 use Rattle.private_call.proofs.Keeping.{SentGood}
 use Rattle.private_call.proofs.Steps.{sends-good}
 
@@ -56,3 +56,13 @@ step-number s p i out =
     (not (argumentsGood s (i .event) (i .media))) (identifierTaken s p (i .event) (rowOf s p i)) (ltb (length out) (length (stepLine s p i)))
     (sendNumber (doneOf s p i .sent) (doneOf s p i .next .call .media) out)
     (λ e. room-alone (doneOf s p i .sent) (doneOf s p i .next .call .media) out (sends-good s p i e))
+
+-- a step that passed the tests goes where the buffer has room for its line
+pub step-goes : (s : Settings) (p : PrivateRecord) (i : Input) (out : List ℕ) → numberBeforeSending s p i ≡ 0 → length (stepLine s p i) ≤ length out
+    → stepNumber s p i out ≡ 0
+step-goes s p i out e h =
+    go (numberBeforeSending s p i) (sendNumber (doneOf s p i .sent) (doneOf s p i .next .call .media) out) e
+    (room-alone (doneOf s p i .sent) (doneOf s p i .next .call .media) out (sends-good s p i e) ∙ ap (λ (b : Bool). cond b 6 0) (le-ltb _ _ h))
+  where
+    go : (n w : ℕ) → n ≡ 0 → w ≡ 0 → cond (eqb n 0) w n ≡ 0
+    go n w a b = rw (eq-eqb n 0 a) b

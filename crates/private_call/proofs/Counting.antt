@@ -46,7 +46,7 @@ counter-keeps true false false false again limit n l g = g
 counter-keeps false stop out false again limit n l g = refl
 
 -- the limits are not 0
-least : (limit : ℕ) → limitGood limit ≡ true → 1 ≤ limit
+pub least : (limit : ℕ) → limitGood limit ≡ true → 1 ≤ limit
 least limit e = within-split 1 limit 16 e .0
 
 -- so the three of them stay in their ranges

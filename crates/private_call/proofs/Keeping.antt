@@ -102,7 +102,7 @@ message-at : {f : Phase} {c : Cause} (row : Row) {state : State} → state ≡ s
 message-at row a x = rw a (x .message)
 
 -- the limits of good settings
-limits-good : (s : Settings) → settingsGood s ≡ true → limitsGood (s .limits) ≡ true
+pub limits-good : (s : Settings) → settingsGood s ≡ true → limitsGood (s .limits) ≡ true
 unfolding settingsGood
 limits-good s e = and-split (neverZero four (s .«own_group»)) _ (and-split (neverZero four (s .«own_user»)) _ e .1) .1
 

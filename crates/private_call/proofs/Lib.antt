@@ -10,3 +10,6 @@ pub mod NumberTable
 pub mod MarkedSteps
 pub mod OneCounter
 pub mod NoReply
+pub mod GeneralRules
+pub mod RowsApart
+pub mod Clearing

@@ -1,0 +1,70 @@
+-- The cleared record is well formed, and TFP7 clears the record. Assumes nothing.
+use Prim.Native.Nat.{ℕ}
+use mathlib.Core.Path.{_≡_, refl, ap, _∙_}
+use mathlib.Core.List.{List}
+use mathlib.Core.Bool.{true, false}
+use lib.Dec.{eqb}
+use Rattle.frame.specs.declared.Media.{Media}
+use Rattle.call.specs.Settings.{settingsGood}
+use Rattle.call.specs.declared.Settings.{Settings}
+use Rattle.call.specs.declared.Verdicts.{Verdicts}
+use Rattle.call.specs.declared.PrivateTimer.{PrivateTimer}
+use Rattle.private_rows.specs.Phases.{tfp7, noTimer, runningOf, phaseIn}
+use Rattle.private_rows.specs.Formed.{noneCalled, clearedRecord, wellFormed}
+use Rattle.private_rows.specs.Causes.{factsOf}
+use Rattle.private_rows.specs.Rows.{rowNumber, rowIn, phaseOf}
+use Rattle.private_rows.specs.declared.states.State.{State}
+use Rattle.private_rows.specs.declared.states.Timers.{Timers}
+use Rattle.private_rows.specs.declared.states.Phase.{Phase}
+use Rattle.private_rows.specs.declared.states.PrivateRecord.{PrivateRecord}
+use Rattle.private_rows.specs.declared.causes.Cause.{Cause}
+use Rattle.private_rows.specs.declared.causes.Facts.{Facts}
+use Rattle.private_rows.specs.declared.rows.Row.{Row}
+use Rattle.private_rows.specs.declared.rows.Row.the-variants.{R28}
+use Rattle.private_rows.proofs.WellFormed.{fit}
+use Rattle.private_effects.specs.Effects.{effectOf}
+use Rattle.private_effects.specs.Carried.{startedOf, stoppedOf, runningAfter, countersAfter, startedBy, stoppedBy, runningBy, carryOut}
+use Rattle.private_call.specs.Step.{stepOf}
+use Rattle.private_call.specs.Running.{expiry}
+use Rattle.private_call.specs.declared.Stepped.{Stepped}
+use Rattle.private_call.proofs.MarkedSteps.{carries, expiry-taken}
+
+-- under all settings
+pub cleared-well-formed : (s : Settings) → wellFormed s clearedRecord ≡ true
+unfolding wellFormed
+cleared-well-formed s = refl
+
+-- the expiry of TFP7 in P1 meets R28
+ignoring-ends : (x : Facts) → rowIn Phase.P1 Cause.Tfp7Expires x ≡ R28
+unfolding rowIn
+ignoring-ends x = refl
+
+-- R28 leaves no timer running, and stops and starts none
+no-timers : {state : State} {was : Timers} → state ≡ State.P1 → was ≡ tfp7 → let x = effectOf R28 state in
+    (runningBy state was tfp7 x ≡ noTimer) × (stoppedBy state was tfp7 x ≡ noTimer) × (startedBy state x ≡ noTimer)
+unfolding startedOf stoppedOf runningAfter
+no-timers a b = rw (a, b) (refl, refl, refl)
+
+-- a step that cleared the record, and did nothing else
+abbrev pub cleared : Stepped
+cleared = record { number = 0; row = 28; next = clearedRecord; stop = noTimer; start = noTimer; length = 0 }
+
+-- the expiry of TFP7 in P1 clears the record, touches no timer and sends nothing
+pub clears : (s : Settings) (p : PrivateRecord) (media : Media) (v : Verdicts) (out : List ℕ) → settingsGood s ≡ true → wellFormed s p ≡ true
+    → p .state ≡ State.P1 → stepOf s p (expiry PrivateTimer.Tfp7 media v) out ≡ cleared
+unfolding carryOut countersAfter
+clears s p media v out g w e =
+    let i = expiry PrivateTimer.Tfp7 media v in
+    let phase : phaseOf p ≡ Phase.P1 = ap (λ (state : State). phaseIn state (p .running)) e in
+    let running : p .running ≡ tfp7 = fit s p w .running ∙ ap runningOf phase in
+    let t = no-timers e running in
+    let r = (λ j. rowIn (phase j) Cause.Tfp7Expires (factsOf s (phase j) (p .counters) (p .call) i)) ∙ ignoring-ends (factsOf s Phase.P1 (p .counters) (p .call) i) in
+    carries s p i out R28 (expiry-taken s p PrivateTimer.Tfp7 media v g w (ap (λ (row : Row). eqb (rowNumber row) 1) r)) r refl
+    ∙ (λ j. record {
+      number = 0;
+      row = 28;
+      next = record { state = State.P0; running = t .0 j; counters = countersAfter (t .0 j) (t .2 j) false (s .limits) (p .counters); call = noneCalled };
+      stop = t .1 j;
+      start = t .2 j;
+      length = 0;
+    })

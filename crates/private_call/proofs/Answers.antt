@@ -1,6 +1,6 @@
 -- The cases of a step: refused by a test, refused by the writer, carried out. Assumes nothing.
 use Prim.Native.Nat.{ℕ}
-use mathlib.Core.Path.{_≡_, refl, sym, ap, _∙_}
+use mathlib.Core.Path.{_≡_, refl}
 use mathlib.Core.List.{List, [], _∷_}
 use mathlib.Core.Bool.{Bool, true, false, cond, not}
 use native.Mathlib.Omega.{arith}
@@ -16,7 +16,7 @@ use Rattle.call.specs.declared.Input.{Input}
 use Rattle.private_rows.specs.Formed.{wellFormed}
 use Rattle.private_rows.specs.Rows.{rowOf}
 use Rattle.private_rows.specs.declared.states.PrivateRecord.{PrivateRecord}
-use Rattle.private_call.specs.Step.{identifierTaken, numberBeforeSending, doneOf, stepLine, stepNumber, refusedOf, movedOf, stepOf, stepBuffer}
+use Rattle.private_call.specs.Step.{identifierTaken, numberBeforeSending, doneOf, stepNumber, refusedOf, movedOf, stepOf, stepBuffer}
 use Rattle.private_call.specs.declared.Stepped.{Stepped}
 
 -- a fifth test is asked where the first four give 0

@@ -3,8 +3,8 @@ use Prim.Native.Nat.{ℕ, _+_, _≤_, _<_}
 use mathlib.Core.Path.{_≡_, refl}
 use mathlib.Core.Bool.{Bool, true, false, cond, not, _&&_, _||_}
 use native.Mathlib.Omega.{arith}
-use lib.Dec.{leb, ltb, eqb}
-use borrow.Author.Tests.{le-leb, ltb-true, ltb-false, eqb-true, eq-eqb}
+use lib.Dec.{leb, ltb}
+use borrow.Author.Tests.{le-leb, ltb-true, ltb-false, eqb-true}
 use Rattle.frame.specs.Range.{within}
 use Rattle.frame.proofs.Laws.{and-split, within-split}
 use Rattle.call.specs.Settings.{limitGood, limitsGood}

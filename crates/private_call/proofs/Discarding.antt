@@ -17,7 +17,6 @@ use Rattle.private_rows.specs.declared.states.Timers.{Timers}
 use Rattle.private_rows.specs.declared.states.Phase.{Phase}
 use Rattle.private_rows.specs.declared.states.PrivateRecord.{PrivateRecord}
 use Rattle.private_rows.specs.declared.causes.Cause.{Cause}
-use Rattle.private_rows.specs.declared.rows.Row.{Row}
 use Rattle.private_rows.specs.declared.rows.Row.the-variants.{Discard}
 use Rattle.private_rows.proofs.WellFormed.{same-timers, Fit}
 use Rattle.private_effects.specs.Effects.{effectOf}

@@ -1,13 +1,11 @@
 -- The rules that hold for all rows, in the order in which they are told. Assumes nothing.
-use Prim.Native.Nat.{ℕ}
-use mathlib.Core.Path.{_≡_, refl, ap, _∙_}
+use mathlib.Core.Path.{_≡_, refl, _∙_}
 use mathlib.Core.Bool.{Bool, true, false, not, _&&_, _||_}
 use lib.Dec.{eqb}
 use Rattle.call.specs.declared.Settings.{Settings}
 use Rattle.call.specs.declared.PrivateTimer.{PrivateTimer}
 use Rattle.call.specs.declared.Input.{Input}
 use Rattle.private_rows.specs.Phases.{stateNumber, has}
-use Rattle.private_rows.specs.declared.states.State.{State}
 use Rattle.private_rows.specs.declared.states.Timers.{Timers}
 use Rattle.private_rows.specs.declared.states.PrivateRecord.{PrivateRecord}
 use Rattle.private_rows.specs.declared.rows.Row.{Row}

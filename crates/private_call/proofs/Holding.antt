@@ -1,11 +1,10 @@
 -- The call stays good: what a row may hold, it holds. Assumes nothing.
-use Prim.Native.Nat.{ℕ}
-use mathlib.Core.Path.{_≡_, refl, sym, ap, _∙_}
+use mathlib.Core.Path.{_≡_, refl, sym, _∙_}
 use mathlib.Core.Bool.{Bool, true, false, cond, not, _&&_, _||_, false≢true, true≢false}
 use native.Mathlib.Omega.{arith}
 use lib.Dec.{eqb}
 use borrow.Author.Tests.{ne-eqb, not-true}
-use Rattle.frame.specs.Digits.{two, four}
+use Rattle.frame.specs.Digits.{two}
 use Rattle.frame.specs.Range.{neverZero, flagGood, typeGood, pckGood}
 use Rattle.frame.specs.Media.{mediaGood}
 use Rattle.frame.specs.Frame.{partiesGood, setupGood, inRange}

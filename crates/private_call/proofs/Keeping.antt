@@ -1,8 +1,6 @@
 -- Carrying out the row that is met keeps a record well formed, and what it sends is in range. Assumes nothing.
-use Prim.Native.Nat.{ℕ}
-use mathlib.Core.Path.{_≡_, refl, sym, ap, _∙_}
-use mathlib.Core.Bool.{Bool, true, false, cond, not, _&&_, _||_, false≢true}
-use lib.Dec.{eqb}
+use mathlib.Core.Path.{_≡_, refl}
+use mathlib.Core.Bool.{Bool, true, false, cond, false≢true}
 use borrow.Author.Tests.{not-true}
 use Rattle.frame.specs.Digits.{four}
 use Rattle.frame.specs.Range.{neverZero, reasonGood}
@@ -15,12 +13,11 @@ use Rattle.call.specs.Settings.{restricted, limitsGood, settingsGood}
 use Rattle.call.specs.Request.{requestOf}
 use Rattle.call.specs.Numbers.{messageGood, argumentsGood}
 use Rattle.call.specs.declared.Settings.{Settings}
-use Rattle.call.specs.declared.Event.{Event}
 use Rattle.call.specs.declared.Input.{Input}
 use Rattle.call.specs.declared.Request.{Request}
 use Rattle.call.specs.declared.Send.{Send}
 use Rattle.private_rows.specs.Phases.{stateOf, runningOf}
-use Rattle.private_rows.specs.Formed.{runningGood, countersGood, fieldsGood, callGood, wellFormed}
+use Rattle.private_rows.specs.Formed.{runningGood, fieldsGood, callGood, wellFormed}
 use Rattle.private_rows.specs.Causes.{causeOf, factsOf}
 use Rattle.private_rows.specs.Rows.{phaseOf, rowOf}
 use Rattle.private_rows.specs.declared.states.State.{State}
@@ -38,7 +35,7 @@ use Rattle.private_effects.specs.declared.effects.Reason.{Reason}
 use Rattle.private_effects.specs.declared.effects.Say.{Say}
 use Rattle.private_effects.specs.declared.effects.Effect.{Effect}
 use Rattle.private_call.proofs.Brought.{outOf, ran-out-of, Brings, brings, bringsCall}
-use Rattle.private_call.proofs.Settling.{startStop, mayHold, holdsOne, maySay, Sound, rows-sound}
+use Rattle.private_call.proofs.Settling.{mayHold, holdsOne, maySay, Sound, rows-sound}
 use Rattle.private_call.proofs.Counting.{both, counters-keep}
 use Rattle.private_call.proofs.Holding.{ranged, split, fields, held-good, one-held}
 

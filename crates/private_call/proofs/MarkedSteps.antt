@@ -2,10 +2,10 @@
 use Prim.Native.Nat.{ℕ}
 use mathlib.Core.Path.{_≡_, refl, sym, ap, _∙_}
 use mathlib.Core.List.{List}
-use mathlib.Core.Bool.{Bool, true, false, cond, not, _||_, true≢false, false≢true}
+use mathlib.Core.Bool.{Bool, true, false, cond, true≢false, false≢true}
 use native.Mathlib.Omega.{arith}
 use lib.ListN.{length}
-use lib.Dec.{eqb, ltb}
+use lib.Dec.{eqb}
 use borrow.Author.Tests.{eq-eqb, eqb-true}
 use Rattle.frame.specs.Lent.{atFront}
 use Rattle.frame.specs.declared.Media.{Media}
@@ -16,10 +16,9 @@ use Rattle.call.specs.declared.Settings.{Settings}
 use Rattle.call.specs.declared.Verdicts.{Verdicts}
 use Rattle.call.specs.declared.PrivateTimer.{PrivateTimer}
 use Rattle.call.specs.declared.Input.{Input}
-use Rattle.call.specs.declared.Send.{Send}
 use Rattle.private_rows.specs.Phases.{has, noTimer, tfp2, tfp4, stateOf, runningOf, phaseIn}
 use Rattle.private_rows.specs.Formed.{counterGood, wellFormed}
-use Rattle.private_rows.specs.Causes.{privateTimerCause, causeOf, factsOf}
+use Rattle.private_rows.specs.Causes.{factsOf}
 use Rattle.private_rows.specs.Rows.{rowNumber, runs, rowIn, phaseOf, rowOf}
 use Rattle.private_rows.specs.declared.states.State.{State}
 use Rattle.private_rows.specs.declared.states.Phase.{Phase}
@@ -33,7 +32,6 @@ use Rattle.private_rows.proofs.Meets.{same-row, quiet-expiry}
 use Rattle.private_rows.proofs.WellFormed.{Fit, fit}
 use Rattle.private_effects.specs.Effects.{effectOf}
 use Rattle.private_effects.specs.Carried.{startedOf, stoppedOf, runningAfter, runningBy, carryOut}
-use Rattle.private_effects.specs.declared.Carried.{Carried}
 use Rattle.private_call.specs.Step.{numberBeforeSending, doneOf, stepLine, refusedOf, discarded, movedOf, stepNumber, stepOf, stepBuffer}
 use Rattle.private_call.specs.declared.Stepped.{Stepped}
 use Rattle.private_call.specs.Running.{expiry, userAccepts}

@@ -49,10 +49,10 @@ one-counter k s p (x ∷ xs) (suc r) g w here e room =
     let more = expires-again k s p (x .0) (x .1) g w here (x .2) (omega (arith, e)) (room .0) in
     let call = more .4 in
     let rest = one-counter k s next xs r g (keeps-well-formed s p i (x .2) g w) (more .2) (omega (arith, e, more .3))
-        (subst (λ (c : PrivateCall). Roomy (length (lineRepeated k c)) xs) (sym call) (room .1)) in
+    (subst (λ (c : PrivateCall). Roomy (length (lineRepeated k c)) xs) (sym call) (room .1)) in
     let line = lineRepeated k (p .call) in (
       step-sends s p i (x .2) (expiries (timerOf k) xs) line (line-bytes k s p) (more .0) (more .1)
-      ∙ ap (λ (l : List (List ℕ)). line ∷ l) (rest .0 ∙ ap (λ (c : PrivateCall). replicate (atMost (length xs) r) (lineRepeated k c)) call),
+          ∙ ap (λ (l : List (List ℕ)). line ∷ l) (rest .0 ∙ ap (λ (c : PrivateCall). replicate (atMost (length xs) r) (lineRepeated k c)) call),
       λ h. rest .1 (le-of-suc-le-suc h),
     )
 
@@ -110,7 +110,7 @@ no-reply {k} {row} b s p i out xs e room enough =
     let first = begins b s p i in
     let told = line-done s p i out (m .0) in
     let line : stepLine s p i ≡ lineRepeated k (next .call) =
-        ap (λ (r : Row). lineSent (carryOut s p i r .sent) (carryOut s p i r .next .call .media)) (m .1) ∙ first .2 ∙ ap (λ (q : PrivateRecord). lineRepeated k (q .call)) (sym done) in
+    ap (λ (r : Row). lineSent (carryOut s p i r .sent) (carryOut s p i r .next .call .media)) (m .1) ∙ first .2 ∙ ap (λ (q : PrivateRecord). lineRepeated k (q .call)) (sym done) in
     let phase = counted-phase k (phaseOf next) (ap (λ (x : Timers). has x (timerOf k)) (sym (fit s next w .running)) ∙ ap (λ (q : PrivateRecord). has (q .running) (timerOf k)) done ∙ first .0) in
     let value = ap (λ (q : PrivateRecord). valueOf k (q .counters)) done ∙ first .1 in
     let limit = valueOf k (s .limits) in
@@ -120,6 +120,6 @@ no-reply {k} {row} b s p i out xs e room enough =
     let sent = rest .0 ∙ ap (λ (n : ℕ). replicate n (lineRepeated k (next .call))) (at-most-second (length xs) r (omega (arith, enough))) ∙ ap (replicate r) (sym line) in
     let whole : suc r ≡ limit = omega (arith, positive) in (
       step-sends s p i out (expiries (timerOf k) xs) (stepLine s p i) (λ z. line-bytes k s next (ap length (sym line) ∙ z)) (told .0) (told .1)
-      ∙ ap (λ (l : List (List ℕ)). stepLine s p i ∷ l) sent ∙ ap (λ (n : ℕ). replicate n (stepLine s p i)) whole,
+          ∙ ap (λ (l : List (List ℕ)). stepLine s p i ∷ l) sent ∙ ap (λ (n : ℕ). replicate n (stepLine s p i)) whole,
       rest .1 (omega (arith, positive, enough)),
     )

@@ -8,7 +8,6 @@ use lib.ListN.{length}
 use lib.Dec.{ltb, eqb}
 use borrow.Author.Tests.{le-ltb, eq-eqb}
 use Rattle.frame.specs.Number.{firstGiven}
-use Rattle.frame.specs.Frame.{inRange}
 use Rattle.frame.specs.Writing.{writeNumber}
 use Rattle.frame.specs.declared.Media.{Media}
 use Rattle.call.specs.Settings.{settingsGood}

@@ -1,17 +1,15 @@
 -- What CFP1, CFP3 and CFP4 share, over the counter: with the limit n and no reply the message is sent n times. Assumes nothing.
-use Prim.Native.Nat.{ℕ, zero, suc, _+_, _<_, _≤_}
+use Prim.Native.Nat.{ℕ, suc, _<_, _≤_}
 use mathlib.Core.Path.{_≡_, refl, sym, ap, _∙_}
-use mathlib.Core.List.{List, [], _∷_, _++_}
-use mathlib.Core.Bool.{Bool, true, false, cond, _&&_}
+use mathlib.Core.List.{List, [], _∷_}
+use mathlib.Core.Bool.{Bool, true, false, cond}
 use native.Mathlib.Omega.{arith}
-use lib.ListN.{length, take, drop, replicate}
+use lib.ListN.{length, drop}
 use lib.Seq.{take-append-seam}
 use lib.Dec.{ltb, eqb}
-use borrow.Author.Tests.{lt-ltb, le-ltb, eq-eqb, ne-eqb}
+use borrow.Author.Tests.{lt-ltb, le-ltb, ne-eqb}
 use Rattle.frame.specs.Lent.{atFront}
-use Rattle.frame.specs.Layout.{lineOf}
 use Rattle.frame.specs.declared.Media.{Media}
-use Rattle.frame.specs.declared.Message.{Message}
 use Rattle.frame.proofs.Frames.{length-line}
 use Rattle.call.specs.Settings.{settingsGood}
 use Rattle.call.specs.Sending.{lineSent, sendNumber}
@@ -31,16 +29,15 @@ use Rattle.private_rows.specs.declared.states.PrivateRecord.{PrivateRecord}
 use Rattle.private_rows.specs.declared.causes.Facts.{Facts}
 use Rattle.private_rows.specs.declared.rows.Row.{Row}
 use Rattle.private_rows.specs.declared.rows.Row.the-variants.{R2, R3, R10, R11, R16, R17}
-use Rattle.private_rows.proofs.WellFormed.{Fit, fit}
+use Rattle.private_rows.proofs.WellFormed.{fit}
 use Rattle.private_effects.specs.Effects.{effectOf}
 use Rattle.private_effects.specs.Carried.{privateTimerOut, startedOf, stoppedOf, runningAfter, countersAfter, oneMore, startedBy, runningBy, carryOut}
-use Rattle.private_call.specs.Step.{numberBeforeSending, doneOf, stepLine, stepNumber, stepOf, stepBuffer}
+use Rattle.private_call.specs.Step.{numberBeforeSending, stepOf, stepBuffer}
 use Rattle.private_call.specs.Running.{expiry, runPrivate, sentPrivate}
-use Rattle.private_call.specs.NoReply.{Counter, cfp1, cfp3, cfp4, valueOf, timerOf, phaseWhere, repeated, lineRepeated, expiries, Roomy, atMost}
+use Rattle.private_call.specs.NoReply.{Counter, cfp1, cfp3, cfp4, valueOf, timerOf, phaseWhere, repeated, lineRepeated, expiries}
 use Rattle.private_call.specs.declared.Stepped.{Stepped}
 use Rattle.private_call.proofs.MarkedSteps.{carries, next-done, line-done, expiry-taken, expiry-discarded}
 use Rattle.private_call.proofs.NumberTable.{step-goes}
-use Rattle.private_call.proofs.Steps.{keeps-well-formed}
 
 -- ---- the two rows of a counter
 

@@ -1,38 +1,31 @@
 -- A step keeps the record well formed, its timers agree, and what it sends is in range. Assumes nothing.
-use Prim.Native.Nat.{ℕ, _+_, _<_, _≤_}
-use mathlib.Core.Path.{_≡_, refl, sym, ap, _∙_, subst}
-use mathlib.Core.List.{List, [], _∷_, _++_}
+use Prim.Native.Nat.{ℕ}
+use mathlib.Core.Path.{_≡_, refl, sym}
+use mathlib.Core.List.{List}
 use mathlib.Core.Bool.{Bool, true, false, cond, not}
 use native.Mathlib.Omega.{arith}
 use lib.ListN.{length}
-use lib.Dec.{ltb, eqb}
+use lib.Dec.{eqb}
 use borrow.Author.Tests.{eq-eqb, eqb-true, eqb-false}
-use Rattle.frame.specs.Number.{firstGiven}
-use Rattle.frame.specs.Frame.{inRange}
 use Rattle.frame.specs.Lent.{lentAfter}
-use Rattle.frame.specs.Layout.{lineOf}
-use Rattle.frame.specs.Writing.{writeNumber}
-use Rattle.frame.specs.declared.Media.{Media}
-use Rattle.frame.specs.declared.Message.{Message}
 use Rattle.frame.proofs.Laws.{passed}
 use Rattle.call.specs.Settings.{settingsGood}
 use Rattle.call.specs.Numbers.{messageGood, argumentsGood}
 use Rattle.call.specs.Sending.{lineSent, sendNumber}
 use Rattle.call.specs.declared.Settings.{Settings}
 use Rattle.call.specs.declared.Input.{Input}
-use Rattle.call.specs.declared.Send.{Send}
 use Rattle.private_rows.specs.Formed.{wellFormed}
 use Rattle.private_rows.specs.Rows.{rowOf}
 use Rattle.private_rows.specs.declared.states.PrivateRecord.{PrivateRecord}
 use Rattle.private_rows.specs.declared.rows.Row.{Row}
 use Rattle.private_rows.specs.declared.rows.Row.the-variants.{Discard}
-use Rattle.private_rows.proofs.WellFormed.{Fit, fit}
+use Rattle.private_rows.proofs.WellFormed.{fit}
 use Rattle.private_effects.specs.Carried.{ranOut, runningAfter, carryOut}
 use Rattle.private_effects.specs.declared.Carried.{Carried}
 use Rattle.private_call.proofs.Keeping.{SentGood, Taken, carried-well-formed, carried-sends-good}
-use Rattle.private_call.proofs.Discarding.{nothing, carried-nothing}
+use Rattle.private_call.proofs.Discarding.{carried-nothing}
 use Rattle.private_call.specs.declared.Stepped.{Stepped}
-use Rattle.private_call.specs.Step.{identifierTaken, stepTests, numberBeforeSending, doneOf, stepLine, stepNumber, refusedOf, movedOf, discarded, stepOf, stepBuffer}
+use Rattle.private_call.specs.Step.{identifierTaken, numberBeforeSending, doneOf, stepLine, stepNumber, refusedOf, movedOf, discarded, stepOf, stepBuffer}
 
 -- ---- what a number 0 shows
 

@@ -1,6 +1,6 @@
 // What each row does: the table of the rows.
 ghost use mathlib.Core.Path.{_≡_};
-ghost use Rattle.private_effects.specs.Effects.{enters as entersOf, stays as staysOf, repeats as repeatsOf, turns as turnsOf, effectOf, reasonNumber};
+ghost use Rattle.private_effects.specs.Effects.{enters as entersOf, takes as takesOf, ends as endsOf, stays as staysOf, repeats as repeatsOf, turns as turnsOf, effectOf, reasonNumber};
 use private_rows::rows::Row;
 use private_rows::states::State;
 use private_rows::states::Timers;
@@ -69,6 +69,20 @@ fn enters(to: State, start: Timers, hold: Hold, say: Say) -> Effect
     }
 }
 
+// A row that stores the setup request and enters a state.
+fn takes(to: State, start: Timers, say: Say) -> Effect
+    ensures { λ r. ⌜ r ≡ takesOf to start say ⌝ }
+{
+    enters(to, start, Hold::Request, say)
+}
+
+// A row that ends what was, and enters P1.
+fn ends(say: Say) -> Effect
+    ensures { λ r. ⌜ r ≡ endsOf say ⌝ }
+{
+    enters(State::P1, Timers::NONE, Hold::Keep, say)
+}
+
 // A row that leaves state and timers as they are.
 fn stays(state: State, hold: Hold, say: Say) -> Effect
     ensures { λ r. ⌜ r ≡ staysOf state hold say ⌝ }
@@ -130,52 +144,32 @@ pub(crate) fn effect_of(row: Row, state: State) -> Effect
 {
     match row {
         Row::Discard => stays(state, Hold::Keep, Say::Nothing),
-        Row::R1 => enters(State::P2, Timers::TFP1, Hold::Request, Say::SetupRequest),
+        Row::R1 => takes(State::P2, Timers::TFP1, Say::SetupRequest),
         Row::R2 => repeats(state, Timers::TFP1, Say::SetupRequest),
-        Row::R3 => enters(State::P1, Timers::NONE, Hold::Keep, Say::Nothing),
+        Row::R3 => ends(Say::Nothing),
         Row::R4 => turns(state, Timers::TFP1, Timers::TFP2, Say::Nothing),
         Row::R5 => enters(State::P4, Timers::TFP5, Hold::Media, Say::AcceptAck),
-        Row::R6 => enters(State::P1, Timers::NONE, Hold::Keep, Say::Nothing),
-        Row::R7 => enters(State::P1, Timers::NONE, Hold::Keep, Say::Nothing),
+        Row::R6 => ends(Say::Nothing),
+        Row::R7 => ends(Say::Nothing),
         Row::R8 => enters(State::P3, Timers::TFP3, Hold::Keep, Say::Release),
         Row::R9 => enters(State::P3, Timers::TFP3, Hold::Keep, Say::Release),
         Row::R10 => repeats(state, Timers::TFP3, Say::Release),
-        Row::R11 => enters(State::P1, Timers::NONE, Hold::Keep, Say::Nothing),
-        Row::R12 => enters(State::P1, Timers::NONE, Hold::Keep, Say::Nothing),
-        Row::R13 => enters(State::P1, Timers::NONE, Hold::Keep, Say::ReleaseAck),
+        Row::R11 => ends(Say::Nothing),
+        Row::R12 => ends(Say::Nothing),
+        Row::R13 => ends(Say::ReleaseAck),
         Row::R14 => stays(state, Hold::Keep, Say::ReleaseAck),
-        Row::R15 => enters(State::P1, Timers::NONE, Hold::Keep, Say::Nothing),
+        Row::R15 => ends(Say::Nothing),
         Row::R16 => repeats(state, Timers::TFP4, Say::Accept),
-        Row::R17 => enters(State::P1, Timers::NONE, Hold::Keep, Say::Nothing),
+        Row::R17 => ends(Say::Nothing),
         Row::R18 => enters(State::P4, Timers::TFP5, Hold::Keep, Say::Nothing),
-        Row::R19 => enters(
-            State::P1,
-            Timers::TFP7,
-            Hold::Request,
-            Say::Reject(Reason::MediaFailure),
-        ),
-        Row::R20 => enters(State::P5, Timers::TFP4, Hold::Request, Say::Accept),
+        Row::R19 => takes(State::P1, Timers::TFP7, Say::Reject(Reason::MediaFailure)),
+        Row::R20 => takes(State::P5, Timers::TFP4, Say::Accept),
         Row::R21 => stays(state, Hold::Request, Say::Reject(Reason::SecurityFailure)),
-        Row::R22 => enters(State::P5, Timers::TFP2, Hold::Request, Say::Ringing),
+        Row::R22 => takes(State::P5, Timers::TFP2, Say::Ringing),
         Row::R23 => turns(state, Timers::TFP2, Timers::TFP4, Say::Accept),
-        Row::R24 => enters(
-            State::P1,
-            Timers::NONE,
-            Hold::Keep,
-            Say::Reject(Reason::SecurityFailure),
-        ),
-        Row::R25 => enters(
-            State::P1,
-            Timers::NONE,
-            Hold::Keep,
-            Say::Reject(Reason::Reject),
-        ),
-        Row::R26 => enters(
-            State::P1,
-            Timers::NONE,
-            Hold::Keep,
-            Say::Reject(Reason::Failed),
-        ),
+        Row::R24 => ends(Say::Reject(Reason::SecurityFailure)),
+        Row::R25 => ends(Say::Reject(Reason::Reject)),
+        Row::R26 => ends(Say::Reject(Reason::Failed)),
         Row::R27 => stays(state, Hold::Keep, Say::RejectOther),
         Row::R28 => enters(State::P0, Timers::NONE, Hold::Clear, Say::Nothing),
         Row::R29 => stays(state, Hold::Keep, Say::AcceptAck),

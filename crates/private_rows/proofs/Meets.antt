@@ -83,7 +83,7 @@ pub quiet-expiry : (t : PrivateTimer) (f : Phase) (x : Facts) → runs t f ≡ f
 quiet-expiry t f x h =
     let row = foundAt (atOf f) (privateTimerCause t) x in
     let e = at-timer (λ t. runs t f || eqb (rowNumber (foundAt (atOf f) (privateTimerCause t) x)) 0)
-        (at-phase (λ f. everyTimer (λ t. runs t f || eqb (rowNumber (foundAt (atOf f) (privateTimerCause t) x)) 0)) (quiet-test x) f) t in
+    (at-phase (λ f. everyTimer (λ t. runs t f || eqb (rowNumber (foundAt (atOf f) (privateTimerCause t) x)) 0)) (quiet-test x) f) t in
     sym (found-is-met f (privateTimerCause t) x) ∙ same-row row Discard (other (runs t f) (eqb (rowNumber row) 0) h e)
   where
     other : (a b : Bool) → a ≡ false → (a || b) ≡ true → b ≡ true

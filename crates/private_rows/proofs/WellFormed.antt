@@ -1,6 +1,6 @@
 -- What a well-formed record is: a phase, with the timers of its table, its counters and its call. Assumes nothing.
 use mathlib.Core.Path.{_≡_, refl}
-use mathlib.Core.Bool.{Bool, true, false, cond, _&&_, Bool·beq, false≢true}
+use mathlib.Core.Bool.{Bool, true, false, cond, Bool·beq, false≢true}
 use Rattle.frame.proofs.Laws.{and-split}
 use Rattle.call.specs.declared.Settings.{Settings}
 use Rattle.private_rows.specs.Phases.{sameTimers, stateOf, runningOf, phaseIn}

@@ -1,5 +1,6 @@
 // The private record: its state, its running timers, its counters and its call; and the phases.
 ghost use mathlib.Core.Path.{_≡_};
+ghost use Rattle.private_rows.specs.Formed.{clearedRecord};
 ghost use Rattle.private_rows.specs.Phases.{phaseIn, runningOf, countOf, sameTimers};
 use call::Counters;
 use frame::Media;
@@ -135,6 +136,13 @@ impl PrivateRecord {
         counters: Counters::ZERO,
         call: PrivateCall::NONE,
     };
+}
+
+// The cleared record.
+pub fn cleared_record() -> PrivateRecord
+    ensures { λ r. ⌜ r ≡ clearedRecord ⌝ }
+{
+    PrivateRecord::CLEARED
 }
 
 // A state with its running timers: P2 and P5 have two phases each.

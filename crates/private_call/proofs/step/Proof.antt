@@ -1,16 +1,15 @@
 -- `private_call::step` meets its contract: refused by a test, by R1 or by the writer, or carried out. Assumes nothing.
 use mathlib.Core.Path.{_≡_, sym, ap, _∙_}
-use mathlib.Core.Bool.{Bool, false}
-use Prim.Native.Nat.{ℕ}
+use mathlib.Core.Bool.{Bool}
 use Rattle.call.specs.Numbers.{numberBeforeRow}
-use Rattle.call.specs.Sending.{sendNumber, sendTold, sendBuffer}
+use Rattle.call.specs.Sending.{sendTold, sendBuffer}
 use Rattle.frame.specs.declared.Written.{Written}
 use Rattle.private_rows.specs.Formed.{wellFormed}
 use Rattle.private_rows.specs.Rows.{rowOf}
 use Rattle.private_rows.specs.declared.rows.Row.{Row}
 use Rattle.private_effects.specs.Carried.{carryOut}
 use Rattle.private_effects.specs.declared.Carried.{Carried}
-use Rattle.private_call.specs.Step.{identifierTaken, doneOf, refusedOf, movedOf}
+use Rattle.private_call.specs.Step.{identifierTaken, doneOf, refusedOf}
 use Rattle.private_call.proofs.Answers.{refused-first, refused-taken, refused-sending, carried-out}
 use borrow.Author.Needs.{needs}
 use Rattle.private_call.proofs.step.Statement.{statement}

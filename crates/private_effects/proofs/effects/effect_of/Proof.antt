@@ -3,6 +3,11 @@ use borrow.Author.Needs.{needs}
 use Rattle.private_effects.proofs.effects.effect_of.Statement.{statement}
 use Rattle.private_effects.proofs.effects.effect_of.Tie as tie
 
+-- /work/main/target/rlib/private_rows.rlib/interface/lang/src/states.rt:8:27
+-- /work/main/target/rlib/private_rows.rlib/interface/lang/src/states.rt:8:27
+-- /work/main/target/rlib/private_rows.rlib/interface/lang/src/states.rt:10:27
+-- /work/main/target/rlib/private_rows.rlib/interface/lang/src/states.rt:11:27
+-- /work/main/target/rlib/private_rows.rlib/interface/lang/src/states.rt:9:27
 pub effect-of-spec : {M : Type 1} → statement M
 effect-of-spec =
     tie.close
@@ -68,32 +73,32 @@ effect-of-spec =
     (λ c. search needs)
     (λ c κs. search needs)
     (λ c. rw (c .stays .ensures, c .before .enum-told .given .1))
-    (λ c. rw (c .enters .ensures, c .before .enum-told2 .given .1))
+    (λ c. rw (c .takes .ensures, c .before .enum-told2 .given .1))
     (λ c. rw (c .repeats .ensures, c .before .enum-told3 .given .1))
-    (λ c. rw (c .enters2 .ensures, c .before .enum-told4 .given .1))
+    (λ c. rw (c .ends .ensures, c .before .enum-told4 .given .1))
     (λ c. rw (c .turns .ensures, c .before .enum-told5 .given .1))
-    (λ c. rw (c .enters3 .ensures, c .before .enum-told6 .given .1))
-    (λ c. rw (c .enters4 .ensures, c .before .enum-told7 .given .1))
-    (λ c. rw (c .enters5 .ensures, c .before .enum-told8 .given .1))
-    (λ c. rw (c .enters6 .ensures, c .before .enum-told9 .given .1))
-    (λ c. rw (c .enters7 .ensures, c .before .enum-told10 .given .1))
+    (λ c. rw (c .enters .ensures, c .before .enum-told6 .given .1))
+    (λ c. rw (c .ends2 .ensures, c .before .enum-told7 .given .1))
+    (λ c. rw (c .ends3 .ensures, c .before .enum-told8 .given .1))
+    (λ c. rw (c .enters2 .ensures, c .before .enum-told9 .given .1))
+    (λ c. rw (c .enters3 .ensures, c .before .enum-told10 .given .1))
     (λ c. rw (c .repeats2 .ensures, c .before .enum-told11 .given .1))
-    (λ c. rw (c .enters8 .ensures, c .before .enum-told12 .given .1))
-    (λ c. rw (c .enters9 .ensures, c .before .enum-told13 .given .1))
-    (λ c. rw (c .enters10 .ensures, c .before .enum-told14 .given .1))
+    (λ c. rw (c .ends4 .ensures, c .before .enum-told12 .given .1))
+    (λ c. rw (c .ends5 .ensures, c .before .enum-told13 .given .1))
+    (λ c. rw (c .ends6 .ensures, c .before .enum-told14 .given .1))
     (λ c. rw (c .stays2 .ensures, c .before .enum-told15 .given .1))
-    (λ c. rw (c .enters11 .ensures, c .before .enum-told16 .given .1))
+    (λ c. rw (c .ends7 .ensures, c .before .enum-told16 .given .1))
     (λ c. rw (c .repeats3 .ensures, c .before .enum-told17 .given .1))
-    (λ c. rw (c .enters12 .ensures, c .before .enum-told18 .given .1))
-    (λ c. rw (c .enters13 .ensures, c .before .enum-told19 .given .1))
-    (λ c. rw (c .enters14 .ensures, c .before .enum-told20 .given .1))
-    (λ c. rw (c .enters15 .ensures, c .before .enum-told21 .given .1))
+    (λ c. rw (c .ends8 .ensures, c .before .enum-told18 .given .1))
+    (λ c. rw (c .enters4 .ensures, c .before .enum-told19 .given .1))
+    (λ c. rw (c .takes2 .ensures, c .before .enum-told20 .given .1))
+    (λ c. rw (c .takes3 .ensures, c .before .enum-told21 .given .1))
     (λ c. rw (c .stays3 .ensures, c .before .enum-told22 .given .1))
-    (λ c. rw (c .enters16 .ensures, c .before .enum-told23 .given .1))
+    (λ c. rw (c .takes4 .ensures, c .before .enum-told23 .given .1))
     (λ c. rw (c .turns2 .ensures, c .before .enum-told24 .given .1))
-    (λ c. rw (c .enters17 .ensures, c .before .enum-told25 .given .1))
-    (λ c. rw (c .enters18 .ensures, c .before .enum-told26 .given .1))
-    (λ c. rw (c .enters19 .ensures, c .before .enum-told27 .given .1))
+    (λ c. rw (c .ends9 .ensures, c .before .enum-told25 .given .1))
+    (λ c. rw (c .ends10 .ensures, c .before .enum-told26 .given .1))
+    (λ c. rw (c .ends11 .ensures, c .before .enum-told27 .given .1))
     (λ c. rw (c .stays4 .ensures, c .before .enum-told28 .given .1))
-    (λ c. rw (c .enters20 .ensures, c .before .enum-told29 .given .1))
+    (λ c. rw (c .enters5 .ensures, c .before .enum-told29 .given .1))
     (λ c. rw (c .stays5 .ensures, c .before .enum-told30 .given .1)))

@@ -1,14 +1,14 @@
--- The numbers 1 to 6 are given exactly when, in the order told. Assumes nothing.
-use mathlib.Core.Path.{_≡_, refl, ap}
-use mathlib.Core.Logic.{inr, Iff·trans}
+-- The numbers 1 to 9 are given exactly when, in the order told. Assumes nothing.
+use mathlib.Core.Path.{_≡_, refl, sym, ap, subst}
+use mathlib.Core.Logic.{_⊎_, inr, Iff·trans}
 use mathlib.Core.List.{List, [], _∷_}
-use mathlib.Core.Bool.{Bool, true, false, not, _&&_, true≢false}
+use mathlib.Core.Bool.{Bool, true, false, not, _&&_, _||_, true≢false}
 use Prim.Native.Nat.{ℕ, zero, suc, _*_, _<_, _≤_}
 use native.Mathlib.Nat.{le-of-suc-le-suc, not-suc-le-zero}
 use native.Mathlib.Omega.{arith}
 use lib.ListN.{length, take, getD}
 use lib.Dec.{ltb, leb, eqb}
-use borrow.Author.Tests.{not-true}
+use borrow.Author.Tests.{not-true, eq-eqb}
 use Rattle.frame.specs.Digits.{isDigit, allDigits}
 use Rattle.frame.specs.Range.{within}
 use Rattle.frame.specs.Frame.{inRange}
@@ -19,7 +19,21 @@ use Rattle.frame.specs.declared.Media.{Media}
 use Rattle.frame.specs.declared.Message.{Message}
 use Rattle.frame.proofs.Judged.{not-all}
 use Rattle.log.specs.Answer.{answerOf, answerNumber}
+use Rattle.call.specs.Settings.{settingsGood}
+use Rattle.call.specs.Request.{requestOf}
+use Rattle.call.specs.Numbers.{messageGood, argumentsGood}
+use Rattle.call.specs.declared.Settings.{Settings}
+use Rattle.call.specs.declared.Input.{Input}
+use Rattle.private_rows.specs.Formed.{wellFormed}
+use Rattle.private_rows.specs.Causes.{sameIdentifier}
+use Rattle.private_rows.specs.Rows.{rowNumber, rowOf}
+use Rattle.private_rows.specs.declared.states.PrivateRecord.{PrivateRecord}
+use Rattle.private_rows.specs.declared.rows.Row.the-variants.{R1}
+use Rattle.private_rows.proofs.Meets.{same-row}
+use Rattle.private_call.specs.Step.{identifierTaken, stepLine, stepNumber}
+use Rattle.private_call.proofs.NumberTable.{step-number}
 use Rattle.demands.specs.ExactlyWhen.{ExactlyWhen, IsDigit, Unended, Undigital, Unkind, Misfit, Unranged, lineTable, writeTable, answerTable}
+use Rattle.demands.specs.ExactlyWhen.{SettingOut, Unformed, FieldOut, ArgumentOut, IdentifierStored, StepRoomless, stepTable}
 use Rattle.demands.specs.Totals.{totals}
 use Rattle.demands.proofs.Totals.{digits-total}
 use Rattle.demands.proofs.Reflects.{Reflects, true-reflects, leb-reflects, ltb-reflects, eqb-reflects, not-reflects, and-reflects, or-reflects}
@@ -108,6 +122,25 @@ misfit-reflects l f =
 false-reflects : (b : Bool) → Reflects (not b) (b ≡ false)
 false-reflects b = (not-true b, λ e. ap not e)
 
+-- ---- 8
+
+-- the row is R1
+first-reflects : (s : Settings) (p : PrivateRecord) (i : Input) → Reflects (eqb (rowNumber (rowOf s p i)) 1) (rowOf s p i ≡ R1)
+first-reflects s p i = (same-row (rowOf s p i) R1, λ e. eq-eqb (rowNumber (rowOf s p i)) 1 (ap rowNumber e))
+
+-- 8 of R1
+taken-reflects : (s : Settings) (p : PrivateRecord) (i : Input) → Reflects (identifierTaken s p (i .event) (rowOf s p i)) (IdentifierStored s p i)
+taken-reflects s p i =
+    and-reflects (eqb (rowNumber (rowOf s p i)) 1) (sameIdentifier (requestOf s (i .event) .parties) (p .call .parties)) (first-reflects s p i)
+    (eqb-reflects (requestOf s (i .event) .parties .identifier) (p .call .parties .identifier))
+
+-- 8
+argument-reflects : (s : Settings) (p : PrivateRecord) (i : Input)
+    → Reflects (not (argumentsGood s (i .event) (i .media)) || identifierTaken s p (i .event) (rowOf s p i)) (ArgumentOut s i ⊎ IdentifierStored s p i)
+argument-reflects s p i =
+    or-reflects (not (argumentsGood s (i .event) (i .media))) (identifierTaken s p (i .event) (rowOf s p i))
+    (false-reflects (argumentsGood s (i .event) (i .media))) (taken-reflects s p i)
+
 -- ---- the theorems
 
 -- the reader: 1 to 5
@@ -147,3 +180,19 @@ answer-exactly-when log out = table-exactly rows refl right
 
     right : Right (Unit {0}) rows
     right = (λ b. ltb-reflects (length out) (length (answerOf log)), tt)
+
+-- a step of the private call machine: 7, 9, then 5 or 8, then 6
+pub step-exactly-when : (s : Settings) (p : PrivateRecord) (i : Input) (out : List ℕ) → ExactlyWhen (stepNumber s p i out) (Unit {0}) (stepTable s p i out)
+step-exactly-when s p i out =
+    subst (λ (n : ℕ). ExactlyWhen n (Unit {0}) (stepTable s p i out)) (sym (step-number s p i out)) (table-exactly rows refl right)
+  where
+    rows : List Row
+    rows =
+        (7, not (settingsGood s), SettingOut s) ∷ (9, not (wellFormed s p), Unformed s p)
+        ∷ (5, not (messageGood (i .event) (i .media)), FieldOut i)
+        ∷ (8, not (argumentsGood s (i .event) (i .media)) || identifierTaken s p (i .event) (rowOf s p i), ArgumentOut s i ⊎ IdentifierStored s p i)
+        ∷ (6, ltb (length out) (length (stepLine s p i)), StepRoomless s p i out) ∷ []
+
+    right : Right (Unit {0}) rows
+    right =
+        (λ b. false-reflects _, (λ b. false-reflects _, (λ b. false-reflects _, (λ b. argument-reflects s p i, (λ b. ltb-reflects (length out) (length (stepLine s p i)), tt)))))

@@ -17,7 +17,14 @@ use Rattle.frame.specs.Writing.{writeNumber}
 use Rattle.frame.specs.declared.Media.{Media}
 use Rattle.frame.specs.declared.Message.{Message}
 use Rattle.frame.proofs.Laws.{and-split}
-use Rattle.demands.specs.MarkedCases.{spoilt, writes, Holds, reading-holds, spoilt-holds, writing-holds, ringing, five, setup, table, AllHold}
+use Rattle.call.specs.declared.PrivateTimer.{PrivateTimer}
+use Rattle.private_rows.specs.Phases.{has, runningOf, phaseIn}
+use Rattle.private_rows.specs.declared.states.State.{State}
+use Rattle.private_rows.specs.declared.states.Timers.{Timers}
+use Rattle.private_rows.proofs.WellFormed.{fit}
+use Rattle.private_call.proofs.MarkedSteps.{expiry-discarded, second-accept, last-expiry}
+use Rattle.demands.specs.MarkedCases.{spoilt, writes, expiryDiscarded, Holds, reading-holds, spoilt-holds, writing-holds, ringing, five, setup, table, AllHold}
+use Rattle.demands.specs.MarkedCases.{last-expiry-holds, second-discarded-holds, expiry-discarded-holds}
 
 -- a test that is computed at each number below n, and what it shows of each
 below : ℕ → (ℕ → Bool) → Bool
@@ -46,8 +53,15 @@ by-length {m} {media} {room} h =
     writing-holds (λ out e.
     ap (λ (k : ℕ). firstGiven ((5, not (inRange m media)) ∷ (6, ltb k (length (lineOf m media))) ∷ [])) (e ∙ sym (length-replicate room 0)) ∙ h)
 
+-- a timer that does not run in a state, whatever runs there: its expiry is discarded
+quiet : {state : State} {timer : PrivateTimer} → ((w : Timers) → has (runningOf (phaseIn state w)) timer ≡ false) → Holds (expiryDiscarded state timer)
+quiet {state} {timer} h =
+    expiry-discarded-holds (λ s p media v out g w e.
+    let runs = fit s p w .running ∙ ap (λ (x : State). runningOf (phaseIn x (p .running))) e in
+    expiry-discarded s p timer media v out g w (ap (λ (x : Timers). has x timer) runs ∙ h (p .running)))
+
 -- every marked case holds
 pub marked-cases : AllHold table
 unfolding below AllHold table ringing five setup readLine refusalOf messageAt mediaAt numbersAt numberAt digitsOf allDigits inRange partiesGood setupGood groupCallGood acceptanceGood writeNumber lineOf frameInHex allInHex inHex
 marked-cases =
-    (reading-holds refl, (everywhere refl, (reading-holds refl, (reading-holds refl, (by-length refl, (by-length refl, (reading-holds refl, (by-length refl, (reading-holds refl, (by-length refl, tt))))))))))
+    (reading-holds refl, (everywhere refl, (reading-holds refl, (reading-holds refl, (last-expiry-holds last-expiry, (second-discarded-holds second-accept, (quiet (λ w. refl), (by-length refl, (by-length refl, (reading-holds refl, (by-length refl, (reading-holds refl, (by-length refl, tt)))))))))))))

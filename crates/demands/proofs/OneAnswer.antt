@@ -5,8 +5,19 @@ use contract.Lifetimes as Lifetimes
 use Rattle.frame.proofs.check_line.Reads as check-line
 use Rattle.frame.proofs.read_line.Reads as read-line
 use Rattle.frame.proofs.write_line.Reads as write-line
+use Rattle.frame.proofs.range.in_range.Reads as in-range
+use Rattle.frame.proofs.carried.media_none.Reads as media-none
 use Rattle.log.proofs.first_line_length.Reads as first-line-length
 use Rattle.log.proofs.answer_log.Reads as answer-log
+use Rattle.call.proofs.number_before_row.Reads as number-before-row
+use Rattle.call.proofs.request_of.Reads as request-of
+use Rattle.call.proofs.write_sent.Reads as write-sent
+use Rattle.private_rows.proofs.well_formed.Reads as well-formed
+use Rattle.private_rows.proofs.row_of.Reads as row-of
+use Rattle.private_rows.proofs.rows.row_number.Reads as row-number
+use Rattle.private_rows.proofs.states.cleared_record.Reads as cleared-record
+use Rattle.private_effects.proofs.carry_out.Reads as carry-out
+use Rattle.private_call.proofs.step.Reads as step
 
 -- what equals the same thing is equal
 same : {A : Type 0} {x a b : A} → a ≡ x → b ≡ x → a ≡ b
@@ -24,6 +35,14 @@ read-line-one κs a r q s t x y = same x y
 pub write-line-one : (κs : Lifetimes.Lfts 1) (a : _) (r q : _) (s t : _) → write-line.Learnt κs a r s → write-line.Learnt κs a q t → (r ≡ q) × (s .1 .1 .0 .now ≡ t .1 .1 .0 .now)
 write-line-one κs a r q s t x y = (same (x .0) (y .0), same (x .1 .0) (y .1 .0))
 
+-- whether a frame is in range
+pub in-range-one : (κs : Lifetimes.Lfts 0) (a : _) (r q : _) (s t : _) → in-range.Learnt κs a r s → in-range.Learnt κs a q t → r ≡ q
+in-range-one κs a r q s t x y = same x y
+
+-- whether there is no media
+pub media-none-one : (κs : Lifetimes.Lfts 0) (a : _) (r q : _) (s t : _) → media-none.Learnt κs a r s → media-none.Learnt κs a q t → r ≡ q
+media-none-one κs a r q s t x y = same x y
+
 -- the length of a log's first line
 pub first-line-length-one : (κs : Lifetimes.Lfts 1) (a : _) (r q : _) (s t : _) → first-line-length.Learnt κs a r s → first-line-length.Learnt κs a q t → r ≡ q
 first-line-length-one κs a r q s t x y = same (x .0) (y .0)
@@ -31,3 +50,39 @@ first-line-length-one κs a r q s t x y = same (x .0) (y .0)
 -- the number and length of a log's answer, and the buffer
 pub answer-log-one : (κs : Lifetimes.Lfts 2) (a : _) (r q : _) (s t : _) → answer-log.Learnt κs a r s → answer-log.Learnt κs a q t → (r ≡ q) × (s .1 .0 .now ≡ t .1 .0 .now)
 answer-log-one κs a r q s t x y = (same (x .0) (y .0), same (x .1 .0) (y .1 .0))
+
+-- the number that a step gives before it looks for a row
+pub number-before-row-one : (κs : Lifetimes.Lfts 0) (a : _) (r q : _) (s t : _) → number-before-row.Learnt κs a r s → number-before-row.Learnt κs a q t → r ≡ q
+number-before-row-one κs a r q s t x y = same x y
+
+-- the setup request that an event brings
+pub request-of-one : (κs : Lifetimes.Lfts 0) (a : _) (r q : _) (s t : _) → request-of.Learnt κs a r s → request-of.Learnt κs a q t → r ≡ q
+request-of-one κs a r q s t x y = same x y
+
+-- the number and length of what a step sends, and the buffer
+pub write-sent-one : (κs : Lifetimes.Lfts 1) (a : _) (r q : _) (s t : _) → write-sent.Learnt κs a r s → write-sent.Learnt κs a q t → (r ≡ q) × (s .1 .1 .0 .now ≡ t .1 .1 .0 .now)
+write-sent-one κs a r q s t x y = (same (x .0) (y .0), same (x .1) (y .1))
+
+-- whether a record is well formed
+pub well-formed-one : (κs : Lifetimes.Lfts 0) (a : _) (r q : _) (s t : _) → well-formed.Learnt κs a r s → well-formed.Learnt κs a q t → r ≡ q
+well-formed-one κs a r q s t x y = same x y
+
+-- the row that an event meets
+pub row-of-one : (κs : Lifetimes.Lfts 0) (a : _) (r q : _) (s t : _) → row-of.Learnt κs a r s → row-of.Learnt κs a q t → r ≡ q
+row-of-one κs a r q s t x y = same x y
+
+-- a row's number
+pub row-number-one : (κs : Lifetimes.Lfts 0) (a : _) (r q : _) (s t : _) → row-number.Learnt κs a r s → row-number.Learnt κs a q t → r ≡ q
+row-number-one κs a r q s t x y = same x y
+
+-- the cleared record
+pub cleared-record-one : (κs : Lifetimes.Lfts 0) (a : _) (r q : _) (s t : _) → cleared-record.Learnt κs a r s → cleared-record.Learnt κs a q t → r ≡ q
+cleared-record-one κs a r q s t x y = same x y
+
+-- what carrying out a row gives
+pub carry-out-one : (κs : Lifetimes.Lfts 0) (a : _) (r q : _) (s t : _) → carry-out.Learnt κs a r s → carry-out.Learnt κs a q t → r ≡ q
+carry-out-one κs a r q s t x y = same x y
+
+-- the answer of a step, and the buffer
+pub step-one : (κs : Lifetimes.Lfts 1) (a : _) (r q : _) (s t : _) → step.Learnt κs a r s → step.Learnt κs a q t → (r ≡ q) × (s .1 .1 .1 .0 .now ≡ t .1 .1 .1 .0 .now)
+step-one κs a r q s t x y = (same (x .0) (y .0), same (x .1) (y .1))

@@ -1,6 +1,7 @@
 -- The marked cases, as one table. Assumes nothing.
 use mathlib.Core.Path.{_≡_}
 use mathlib.Core.List.{List, [], _∷_}
+use mathlib.Core.Bool.{true}
 use Prim.Native.Nat.{ℕ, _<_}
 use Prim.Native.String.{String}
 use lib.ListN.{length, set}
@@ -11,7 +12,21 @@ use Rattle.frame.specs.declared.Media.{Media}
 use Rattle.frame.specs.declared.Message.{Message}
 use Rattle.frame.specs.declared.Message.the-variants.{SetupRequest, Ringing}
 use Rattle.frame.specs.declared.Reading.{Reading}
+use Rattle.call.specs.Settings.{settingsGood}
+use Rattle.call.specs.declared.Settings.{Settings}
+use Rattle.call.specs.declared.Verdicts.{Verdicts}
+use Rattle.call.specs.declared.PrivateTimer.{PrivateTimer}
+use Rattle.call.specs.declared.Input.{Input}
+use Rattle.private_rows.specs.Formed.{wellFormed}
+use Rattle.private_rows.specs.declared.states.State.{State}
+use Rattle.private_rows.specs.declared.states.PrivateRecord.{PrivateRecord}
+use Rattle.private_call.specs.Step.{discarded, stepOf, stepBuffer}
+use Rattle.private_call.specs.Running.{expiry, userAccepts}
 use Rattle.demands.specs.Text.{bytes}
+
+-- an input is discarded: number 0, row 0, the record as it was, no timer, length 0, and every byte of the buffer as lent
+abbrev pub IsDiscarded : Settings → PrivateRecord → Input → List ℕ → Type 0
+IsDiscarded s p i out = (stepOf s p i out ≡ discarded p) × (stepBuffer s p i out ≡ out)
 
 -- what a case says
 pub data Case : Type 0 where
@@ -21,6 +36,12 @@ pub data Case : Type 0 where
   spoilt : List ℕ → ℕ → ℕ → Case
   -- a frame gets this number from every buffer of this length
   writes : Message → Media → ℕ → ℕ → Case
+  -- from every well-formed record with this CFP1, at this limit of it, the expiry of TFP1 meets this row
+  lastExpiry : ℕ → ℕ → ℕ → Case
+  -- the user's accept meets this row, and the user accepts again: the second accept is discarded
+  secondDiscarded : ℕ → Case
+  -- from every well-formed record in this state, the expiry of this timer is discarded
+  expiryDiscarded : State → PrivateTimer → Case
 
 -- a case holds
 pub data Holds : Case → Type 0 where
@@ -28,6 +49,18 @@ pub data Holds : Case → Type 0 where
   spoilt-holds : {l : List ℕ} {byte n : ℕ} → ((i : ℕ) → i < count l → lineNumber (set l i byte) ≡ n) → Holds (spoilt l byte n)
   writing-holds : {m : Message} {media : Media} {room n : ℕ} → ((out : List ℕ) → length out ≡ room → writeNumber m media out ≡ n)
       → Holds (writes m media room n)
+  last-expiry-holds : {counter limit row : ℕ}
+      → ((s : Settings) (p : PrivateRecord) (media : Media) (v : Verdicts) (out : List ℕ) → settingsGood s ≡ true → wellFormed s p ≡ true
+      → p .counters .cfp1 ≡ counter → s .limits .cfp1 ≡ limit → stepOf s p (expiry PrivateTimer.Tfp1 media v) out .row ≡ row)
+      → Holds (lastExpiry counter limit row)
+  second-discarded-holds : {row : ℕ}
+      → ((s : Settings) (p : PrivateRecord) (media media' : Media) (v v' : Verdicts) (out out' : List ℕ) → stepOf s p (userAccepts media v) out .row ≡ row
+      → IsDiscarded s (stepOf s p (userAccepts media v) out .next) (userAccepts media' v') out')
+      → Holds (secondDiscarded row)
+  expiry-discarded-holds : {state : State} {timer : PrivateTimer}
+      → ((s : Settings) (p : PrivateRecord) (media : Media) (v : Verdicts) (out : List ℕ) → settingsGood s ≡ true → wellFormed s p ≡ true
+      → p .state ≡ state → IsDiscarded s p (expiry timer media v) out)
+      → Holds (expiryDiscarded state timer)
 
 -- RINGING of call 1234 (hexadecimal), caller 7, callee 9
 unfoldable pub ringing : Message
@@ -50,6 +83,9 @@ table =
     ∷ ("B", spoilt (bytes "0212340000000700000009\n") 65 2)
     ∷ ("C", reads (bytes "\n") (refusal 3))
     ∷ ("D", reads (bytes "0a12340000000700000009\n") (refusal 3))
+    ∷ ("E", lastExpiry 1 1 3)
+    ∷ ("F", secondDiscarded 23)
+    ∷ ("G", expiryDiscarded State.P4 PrivateTimer.Tfp7)
     ∷ ("K", writes ringing noMedia 22 6)
     ∷ ("K", writes ringing noMedia 23 0)
     ∷ ("L", reads (bytes "011234000000070000000900040000000530000000\n") (reading (setup 0x3000_0000) five))

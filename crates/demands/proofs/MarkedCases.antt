@@ -12,19 +12,27 @@ use Rattle.frame.specs.Number.{firstGiven}
 use Rattle.frame.specs.Digits.{allDigits, inHex, numberAt, allInHex, numbersAt}
 use Rattle.frame.specs.Frame.{partiesGood, setupGood, groupCallGood, acceptanceGood, inRange}
 use Rattle.frame.specs.Layout.{digitsOf, frameInHex, lineOf}
+use Rattle.frame.specs.Media.{noMedia}
 use Rattle.frame.specs.Line.{messageAt, mediaAt, count, refusalOf, readLine, lineNumber}
 use Rattle.frame.specs.Writing.{writeNumber}
 use Rattle.frame.specs.declared.Media.{Media}
 use Rattle.frame.specs.declared.Message.{Message}
 use Rattle.frame.proofs.Laws.{and-split}
+use Rattle.call.specs.Settings.{settingsGood}
 use Rattle.call.specs.declared.PrivateTimer.{PrivateTimer}
 use Rattle.private_rows.specs.Phases.{has, runningOf, phaseIn}
+use Rattle.private_rows.specs.Formed.{wellFormed}
+use Rattle.private_rows.specs.Rows.{rowIn}
 use Rattle.private_rows.specs.declared.states.State.{State}
+use Rattle.private_rows.specs.declared.states.Phase.{Phase}
 use Rattle.private_rows.specs.declared.states.Timers.{Timers}
 use Rattle.private_rows.proofs.WellFormed.{fit}
+use Rattle.private_effects.specs.Carried.{startedOf, stoppedOf, runningAfter, countersAfter, carryOut}
+use Rattle.private_call.specs.Step.{stepOf}
+use Rattle.private_call.specs.Running.{expiry, userAccepts}
 use Rattle.private_call.proofs.MarkedSteps.{expiry-discarded, second-accept, last-expiry}
 use Rattle.demands.specs.MarkedCases.{spoilt, writes, expiryDiscarded, Holds, reading-holds, spoilt-holds, writing-holds, ringing, five, setup, table, AllHold}
-use Rattle.demands.specs.MarkedCases.{last-expiry-holds, second-discarded-holds, expiry-discarded-holds}
+use Rattle.demands.specs.MarkedCases.{steps, cab, inCall, noVerdict, noCount, step-holds, last-expiry-holds, second-discarded-holds, expiry-discarded-holds}
 
 -- a test that is computed at each number below n, and what it shows of each
 below : ℕ → (ℕ → Bool) → Bool
@@ -60,8 +68,23 @@ quiet {state} {timer} h =
     let runs = fit s p w .running ∙ ap (λ (x : State). runningOf (phaseIn x (p .running))) e in
     expiry-discarded s p timer media v out g w (ap (λ (x : Timers). has x timer) runs ∙ h (p .running)))
 
+-- case E, for a record
+step-E : Holds (steps cab (inCall Phase.P2Tfp1 (record { cfp1 = 1; cfp3 = 0; cfp4 = 0 }) 7 9) (expiry PrivateTimer.Tfp1 noMedia noVerdict) [] 0 3)
+unfolding cab inCall noVerdict noCount five stepOf settingsGood wellFormed rowIn carryOut startedOf stoppedOf runningAfter countersAfter inRange partiesGood setupGood
+step-E = step-holds refl refl
+
+-- case F, for a record
+step-F : Holds (steps cab (inCall Phase.P5Tfp2 noCount 9 7) (userAccepts noMedia noVerdict) (replicate 31 0) 0 23)
+unfolding cab inCall noVerdict noCount five stepOf settingsGood wellFormed rowIn carryOut startedOf stoppedOf runningAfter countersAfter inRange partiesGood setupGood writeNumber lineOf frameInHex allInHex inHex
+step-F = step-holds refl refl
+
+-- case G, for a record
+step-G : Holds (steps cab (inCall Phase.P4 noCount 7 9) (expiry PrivateTimer.Tfp7 noMedia noVerdict) [] 0 0)
+unfolding cab inCall noVerdict noCount five stepOf settingsGood wellFormed rowIn carryOut startedOf stoppedOf runningAfter countersAfter inRange partiesGood setupGood
+step-G = step-holds refl refl
+
 -- every marked case holds
 pub marked-cases : AllHold table
 unfolding below AllHold table ringing five setup readLine refusalOf messageAt mediaAt numbersAt numberAt digitsOf allDigits inRange partiesGood setupGood groupCallGood acceptanceGood writeNumber lineOf frameInHex allInHex inHex
 marked-cases =
-    (reading-holds refl, (everywhere refl, (reading-holds refl, (reading-holds refl, (last-expiry-holds last-expiry, (second-discarded-holds second-accept, (quiet (λ w. refl), (by-length refl, (by-length refl, (reading-holds refl, (by-length refl, (reading-holds refl, (by-length refl, tt)))))))))))))
+    (reading-holds refl, (everywhere refl, (reading-holds refl, (reading-holds refl, (last-expiry-holds last-expiry, (step-E, (second-discarded-holds second-accept, (step-F, (quiet (λ w. refl), (step-G, (by-length refl, (by-length refl, (reading-holds refl, (by-length refl, (reading-holds refl, (by-length refl, tt))))))))))))))))

@@ -1,10 +1,10 @@
 -- The marked cases, as one table. Assumes nothing.
 use mathlib.Core.Path.{_≡_}
 use mathlib.Core.List.{List, [], _∷_}
-use mathlib.Core.Bool.{true}
+use mathlib.Core.Bool.{true, false}
 use Prim.Native.Nat.{ℕ, _<_}
 use Prim.Native.String.{String}
-use lib.ListN.{length, set}
+use lib.ListN.{length, set, replicate}
 use Rattle.frame.specs.Media.{noMedia}
 use Rattle.frame.specs.Line.{count, lineNumber, readLine, reading, refusal}
 use Rattle.frame.specs.Writing.{writeNumber}
@@ -13,12 +13,15 @@ use Rattle.frame.specs.declared.Message.{Message}
 use Rattle.frame.specs.declared.Message.the-variants.{SetupRequest, Ringing}
 use Rattle.frame.specs.declared.Reading.{Reading}
 use Rattle.call.specs.Settings.{settingsGood}
+use Rattle.call.specs.declared.Counters.{Counters}
 use Rattle.call.specs.declared.Settings.{Settings}
 use Rattle.call.specs.declared.Verdicts.{Verdicts}
 use Rattle.call.specs.declared.PrivateTimer.{PrivateTimer}
 use Rattle.call.specs.declared.Input.{Input}
+use Rattle.private_rows.specs.Phases.{stateOf, runningOf}
 use Rattle.private_rows.specs.Formed.{wellFormed}
 use Rattle.private_rows.specs.declared.states.State.{State}
+use Rattle.private_rows.specs.declared.states.Phase.{Phase}
 use Rattle.private_rows.specs.declared.states.PrivateRecord.{PrivateRecord}
 use Rattle.private_call.specs.Step.{discarded, stepOf, stepBuffer}
 use Rattle.private_call.specs.Running.{expiry, userAccepts}
@@ -36,6 +39,8 @@ pub data Case : Type 0 where
   spoilt : List ℕ → ℕ → ℕ → Case
   -- a frame gets this number from every buffer of this length
   writes : Message → Media → ℕ → ℕ → Case
+  -- a step gives this number and this row
+  steps : Settings → PrivateRecord → Input → List ℕ → ℕ → ℕ → Case
   -- from every well-formed record with this CFP1, at this limit of it, the expiry of TFP1 meets this row
   lastExpiry : ℕ → ℕ → ℕ → Case
   -- the user's accept meets this row, and the user accepts again: the second accept is discarded
@@ -49,6 +54,8 @@ pub data Holds : Case → Type 0 where
   spoilt-holds : {l : List ℕ} {byte n : ℕ} → ((i : ℕ) → i < count l → lineNumber (set l i byte) ≡ n) → Holds (spoilt l byte n)
   writing-holds : {m : Message} {media : Media} {room n : ℕ} → ((out : List ℕ) → length out ≡ room → writeNumber m media out ≡ n)
       → Holds (writes m media room n)
+  step-holds : {s : Settings} {p : PrivateRecord} {i : Input} {out : List ℕ} {n row : ℕ} → stepOf s p i out .number ≡ n → stepOf s p i out .row ≡ row
+      → Holds (steps s p i out n row)
   last-expiry-holds : {counter limit row : ℕ}
       → ((s : Settings) (p : PrivateRecord) (media : Media) (v : Verdicts) (out : List ℕ) → settingsGood s ≡ true → wellFormed s p ≡ true
       → p .counters .cfp1 ≡ counter → s .limits .cfp1 ≡ limit → stepOf s p (expiry PrivateTimer.Tfp1 media v) out .row ≡ row)
@@ -76,7 +83,30 @@ setup k =
     SetupRequest (record { identifier = 0x1234; caller = 7; callee = 9 })
     (record { commencement = 0; «call_type» = 4; «pck_id» = k })
 
--- the cases by their letters
+-- user 7 of group 3, every limit 1
+unfoldable pub cab : Settings
+cab =
+    record { «own_user» = 7; «own_group» = 3; restrict = false; acknowledgement = false; limits = record { cfp1 = 1; cfp3 = 1; cfp4 = 1 } }
+
+-- call 1234 (hexadecimal), automatic, media 5, no security, in a phase of the table with these counters, by its users
+unfoldable pub inCall : Phase → Counters → ℕ → ℕ → PrivateRecord
+inCall f counters caller callee =
+    record {
+      state = stateOf f;
+      running = runningOf f;
+      counters = counters;
+      call = record { parties = record { identifier = 0x1234; caller = caller; callee = callee }; commencement = 0; media = five; «pck_id» = 0 };
+    }
+
+-- no verdict is given
+unfoldable pub noVerdict : Verdicts
+noVerdict = record { media = false; signature = false }
+
+-- where no counter counts
+unfoldable pub noCount : Counters
+noCount = record { cfp1 = 0; cfp3 = 0; cfp4 = 0 }
+
+-- the cases by their letters; E, F and G for every record, and each for one, so that there is one
 unfoldable pub table : List (String × Case)
 table =
     ("A", reads (bytes "0212340000000700000009\n") (reading ringing noMedia))
@@ -84,8 +114,11 @@ table =
     ∷ ("C", reads (bytes "\n") (refusal 3))
     ∷ ("D", reads (bytes "0a12340000000700000009\n") (refusal 3))
     ∷ ("E", lastExpiry 1 1 3)
+    ∷ ("E", steps cab (inCall Phase.P2Tfp1 (record { cfp1 = 1; cfp3 = 0; cfp4 = 0 }) 7 9) (expiry PrivateTimer.Tfp1 noMedia noVerdict) [] 0 3)
     ∷ ("F", secondDiscarded 23)
+    ∷ ("F", steps cab (inCall Phase.P5Tfp2 noCount 9 7) (userAccepts noMedia noVerdict) (replicate 31 0) 0 23)
     ∷ ("G", expiryDiscarded State.P4 PrivateTimer.Tfp7)
+    ∷ ("G", steps cab (inCall Phase.P4 noCount 7 9) (expiry PrivateTimer.Tfp7 noMedia noVerdict) [] 0 0)
     ∷ ("K", writes ringing noMedia 22 6)
     ∷ ("K", writes ringing noMedia 23 0)
     ∷ ("L", reads (bytes "011234000000070000000900040000000530000000\n") (reading (setup 0x3000_0000) five))

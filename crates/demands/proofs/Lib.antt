@@ -5,3 +5,4 @@ pub mod Totals
 pub mod Reflects
 pub mod Tables
 pub mod ExactlyWhen
+pub mod RowPlays

@@ -3,3 +3,4 @@ pub mod Totals
 pub mod ExactlyWhen
 pub mod NothingChanges
 pub mod MarkedCases
+pub mod RowPlays

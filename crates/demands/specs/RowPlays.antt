@@ -1,0 +1,193 @@
+-- Every private row played once or more: what is stored, what happens, and what must come of it, to the last byte. Assumes nothing.
+use mathlib.Core.Path.{_≡_}
+use mathlib.Core.List.{List, [], _∷_}
+use mathlib.Core.Bool.{Bool, true, false}
+use Prim.Native.Nat.{ℕ}
+use Prim.Native.String.{String}
+use lib.ListN.{length, replicate}
+use Rattle.frame.specs.Range.{privateType}
+use Rattle.frame.specs.Lent.{atFront}
+use Rattle.frame.specs.Layout.{longestLine}
+use Rattle.frame.specs.declared.Media.{Media}
+use Rattle.frame.specs.declared.Message.{Message}
+use Rattle.frame.specs.declared.Message.the-variants.{SetupRequest, Ringing, Accept, Reject, Release, ReleaseAck, AcceptAck}
+use Rattle.call.specs.declared.Counters.{Counters}
+use Rattle.call.specs.declared.Settings.{Settings}
+use Rattle.call.specs.declared.Verdicts.{Verdicts}
+use Rattle.call.specs.declared.PrivateTimer.{PrivateTimer}
+use Rattle.call.specs.declared.Timer.{Timer}
+use Rattle.call.specs.declared.PrivateAction.{PrivateAction}
+use Rattle.call.specs.declared.Action.{Action}
+use Rattle.call.specs.declared.Event.{Event}
+use Rattle.call.specs.declared.Input.{Input}
+use Rattle.private_rows.specs.Phases.{noTimer, tfp1, tfp2, tfp3, tfp4, tfp5, tfp7, stateOf, runningOf}
+use Rattle.private_rows.specs.Formed.{clearedRecord}
+use Rattle.private_rows.specs.declared.states.Timers.{Timers}
+use Rattle.private_rows.specs.declared.states.Phase.{Phase}
+use Rattle.private_rows.specs.declared.states.PrivateCall.{PrivateCall}
+use Rattle.private_rows.specs.declared.states.PrivateRecord.{PrivateRecord}
+use Rattle.private_effects.specs.Carried.{withMedia}
+use Rattle.private_call.specs.Step.{stepOf, stepBuffer}
+use Rattle.demands.specs.Text.{bytes}
+
+-- ---- who plays
+
+-- user 7 of group 3, every limit 3
+abbrev pub crewWith : Bool → Settings
+crewWith restrict =
+    record { «own_user» = 7; «own_group» = 3; restrict = restrict; acknowledgement = false; limits = record { cfp1 = 3; cfp3 = 3; cfp4 = 3 } }
+
+-- who tells reasons
+abbrev pub crew : Settings
+crew = crewWith false
+
+-- who keeps reasons back
+abbrev pub restrictedCrew : Settings
+restrictedCrew = crewWith true
+
+-- ---- what is stored
+
+-- media 5, what the cab offers
+abbrev pub five : Media
+five = record { number = 5 }
+
+-- media 6, what it hears
+abbrev pub six : Media
+six = record { number = 6 }
+
+-- a PCK-ID that is not 0
+abbrev pub secure : ℕ
+secure = 0x3000_0001
+
+-- a call that user 7 makes to user 9
+abbrev pub outgoing : ℕ → PrivateCall
+outgoing n = record { parties = record { identifier = n; caller = 7; callee = 9 }; commencement = 0; media = five; «pck_id» = 0 }
+
+-- call 1234 (hexadecimal) from 7 to 9
+abbrev pub ours : PrivateCall
+ours = outgoing 0x1234
+
+-- call 1234 (hexadecimal) from 9 to 7
+abbrev pub theirs : PrivateCall
+theirs = record { parties = record { identifier = 0x1234; caller = 9; callee = 7 }; commencement = 0; media = five; «pck_id» = 0 }
+
+-- call 1235 (hexadecimal) from 9 to 7 as its request had it
+abbrev pub taken : ℕ → ℕ → PrivateCall
+taken commencement pck = record { parties = record { identifier = 0x1235; caller = 9; callee = 7 }; commencement = commencement; media = six; «pck_id» = pck }
+
+-- where no counter counts
+abbrev pub noCount : Counters
+noCount = record { cfp1 = 0; cfp3 = 0; cfp4 = 0 }
+
+-- where CFP1 counts
+abbrev pub cfp1At : ℕ → Counters
+cfp1At n = record { cfp1 = n; cfp3 = 0; cfp4 = 0 }
+
+-- where CFP3 counts
+abbrev pub cfp3At : ℕ → Counters
+cfp3At n = record { cfp1 = 0; cfp3 = n; cfp4 = 0 }
+
+-- where CFP4 counts
+abbrev pub cfp4At : ℕ → Counters
+cfp4At n = record { cfp1 = 0; cfp3 = 0; cfp4 = n }
+
+-- a record in a phase
+abbrev pub stored : Phase → Counters → PrivateCall → PrivateRecord
+stored f counters call = record { state = stateOf f; running = runningOf f; counters = counters; call = call }
+
+-- ---- what happens; a signature is never good here
+
+-- an input by its event, with media 6 beside it
+abbrev pub input : Event → Bool → Input
+input event possible = record { event = event; media = six; verdicts = record { media = possible; signature = false } }
+
+-- a message is heard, and media can be set up
+abbrev pub hears : Message → Input
+hears m = input (Event.Message m) true
+
+-- a request of call 1235 (hexadecimal) from 9 to 7
+abbrev pub request : ℕ → ℕ → Message
+request commencement pck =
+    SetupRequest (record { identifier = 0x1235; caller = 9; callee = 7 }) (record { commencement = commencement; «call_type» = privateType; «pck_id» = pck })
+
+-- a message is heard, and the host tells whether media can be set up
+abbrev pub offered : Message → Bool → Input
+offered m possible = input (Event.Message m) possible
+
+-- the user does something
+abbrev pub does : PrivateAction → Input
+does a = input (Event.Action (Action.Private a)) true
+
+-- the user starts call 1235 (hexadecimal) to 9, automatic, media 5, no security
+abbrev pub starts : Input
+starts =
+    record {
+      event = Event.Action (Action.Private (PrivateAction.Start (record { identifier = 0x1235; callee = 9; commencement = 0; «pck_id» = 0 })));
+      media = five;
+      verdicts = record { media = false; signature = false };
+    }
+
+-- a timer runs out
+abbrev pub expires : PrivateTimer → Input
+expires t = input (Event.Expiry (Timer.Private t)) true
+
+-- ---- the plays
+
+-- row, settings, record, input; timers to stop, timers to start, next record, line sent
+pub data Play : Type 0 where
+  play : ℕ → Settings → PrivateRecord → Input → Timers → Timers → PrivateRecord → String → Play
+
+-- the buffer lent: the longest line, of zeros
+abbrev pub lent : List ℕ
+lent = replicate longestLine 0
+
+-- it comes out as told
+abbrev pub ComesOut : Play → Type 0
+ComesOut (play row s p i stop start next line) =
+    (stepOf s p i lent ≡ record { number = 0; row = row; next = next; stop = stop; start = start; length = length (bytes line) })
+    × (stepBuffer s p i lent ≡ atFront (bytes line) lent)
+
+-- the plays in the order of the rows
+unfoldable pub plays : List Play
+plays =
+    play 1 crew (stored Phase.P1 noCount ours) starts tfp7 tfp1 (stored Phase.P2Tfp1 (cfp1At 1) (outgoing 0x1235)) "011235000000070000000900040000000500000000\n"
+    ∷ play 2 crew (stored Phase.P2Tfp1 (cfp1At 1) ours) (expires PrivateTimer.Tfp1) noTimer tfp1 (stored Phase.P2Tfp1 (cfp1At 2) ours) "011234000000070000000900040000000500000000\n"
+    ∷ play 3 crew (stored Phase.P2Tfp1 (cfp1At 3) ours) (expires PrivateTimer.Tfp1) noTimer tfp7 (stored Phase.P1 noCount ours) ""
+    ∷ play 4 crew (stored Phase.P2Tfp1 (cfp1At 2) ours) (hears (Ringing (ours .parties))) tfp1 tfp2 (stored Phase.P2Tfp2 noCount ours) ""
+    ∷ play 5 crew (stored Phase.P2Tfp2 noCount ours) (hears (Accept (ours .parties))) tfp2 tfp5 (stored Phase.P4 noCount (withMedia ours six)) "0712340000000700000009\n"
+    ∷ play 6 crew (stored Phase.P2Tfp1 (cfp1At 1) ours) (hears (Reject (ours .parties) 2)) tfp1 tfp7 (stored Phase.P1 noCount ours) ""
+    ∷ play 7 crew (stored Phase.P2Tfp2 noCount ours) (expires PrivateTimer.Tfp2) noTimer tfp7 (stored Phase.P1 noCount ours) ""
+    ∷ play 8 crew (stored Phase.P2Tfp2 noCount ours) (does PrivateAction.End) tfp2 tfp3 (stored Phase.P3 (cfp3At 1) ours) "0512340000000700000009\n"
+    ∷ play 9 crew (stored Phase.P4 noCount theirs) (does PrivateAction.End) tfp5 tfp3 (stored Phase.P3 (cfp3At 1) theirs) "0512340000000900000007\n"
+    ∷ play 10 crew (stored Phase.P3 (cfp3At 1) ours) (expires PrivateTimer.Tfp3) noTimer tfp3 (stored Phase.P3 (cfp3At 2) ours) "0512340000000700000009\n"
+    ∷ play 11 crew (stored Phase.P3 (cfp3At 3) ours) (expires PrivateTimer.Tfp3) noTimer tfp7 (stored Phase.P1 noCount ours) ""
+    ∷ play 12 crew (stored Phase.P3 (cfp3At 2) ours) (hears (ReleaseAck (ours .parties))) tfp3 tfp7 (stored Phase.P1 noCount ours) ""
+    ∷ play 13 crew (stored Phase.P3 (cfp3At 1) ours) (hears (Release (ours .parties))) tfp3 tfp7 (stored Phase.P1 noCount ours) "0612340000000700000009\n"
+    ∷ play 13 crew (stored Phase.P4 noCount ours) (hears (Release (ours .parties))) tfp5 tfp7 (stored Phase.P1 noCount ours) "0612340000000700000009\n"
+    ∷ play 13 crew (stored Phase.P5Tfp4 (cfp4At 1) theirs) (hears (Release (theirs .parties))) tfp4 tfp7 (stored Phase.P1 noCount theirs) "0612340000000900000007\n"
+    ∷ play 14 crew (stored Phase.P1 noCount ours) (hears (Release (ours .parties))) noTimer noTimer (stored Phase.P1 noCount ours) "0612340000000700000009\n"
+    ∷ play 15 crew (stored Phase.P4 noCount ours) (expires PrivateTimer.Tfp5) noTimer tfp7 (stored Phase.P1 noCount ours) ""
+    ∷ play 16 crew (stored Phase.P5Tfp4 (cfp4At 1) theirs) (expires PrivateTimer.Tfp4) noTimer tfp4 (stored Phase.P5Tfp4 (cfp4At 2) theirs) "031234000000090000000700000005\n"
+    ∷ play 17 crew (stored Phase.P5Tfp4 (cfp4At 3) theirs) (expires PrivateTimer.Tfp4) noTimer tfp7 (stored Phase.P1 noCount theirs) ""
+    ∷ play 18 crew (stored Phase.P5Tfp4 (cfp4At 1) theirs) (hears (AcceptAck (theirs .parties))) tfp4 tfp5 (stored Phase.P4 noCount theirs) ""
+    ∷ play 19 crew clearedRecord (offered (request 0 0) false) noTimer tfp7 (stored Phase.P1 noCount (taken 0 0)) "041235000000090000000701\n"
+    ∷ play 19 restrictedCrew (stored Phase.P1 noCount ours) (offered (request 0 0) false) noTimer tfp7 (stored Phase.P1 noCount (taken 0 0)) "041235000000090000000704\n"
+    ∷ play 20 crew (stored Phase.P1 noCount ours) (hears (request 0 0)) tfp7 tfp4 (stored Phase.P5Tfp4 (cfp4At 1) (taken 0 0)) "031235000000090000000700000006\n"
+    ∷ play 21 crew clearedRecord (hears (request 0 secure)) noTimer noTimer (stored Phase.P0 noCount (taken 0 secure)) "041235000000090000000703\n"
+    ∷ play 21 restrictedCrew (stored Phase.P1 noCount ours) (hears (request 0 secure)) noTimer noTimer (stored Phase.P1 noCount (taken 0 secure)) "041235000000090000000704\n"
+    ∷ play 22 crew (stored Phase.P1 noCount ours) (hears (request 1 secure)) tfp7 tfp2 (stored Phase.P5Tfp2 noCount (taken 1 secure)) "0212350000000900000007\n"
+    ∷ play 23 crew (stored Phase.P5Tfp2 noCount theirs) (does PrivateAction.Accept) tfp2 tfp4 (stored Phase.P5Tfp4 (cfp4At 1) theirs) "031234000000090000000700000005\n"
+    ∷ play 24 crew (stored Phase.P5Tfp2 noCount (taken 1 secure)) (does PrivateAction.Accept) tfp2 tfp7 (stored Phase.P1 noCount (taken 1 secure)) "041235000000090000000703\n"
+    ∷ play 25 crew (stored Phase.P5Tfp2 noCount theirs) (does PrivateAction.Reject) tfp2 tfp7 (stored Phase.P1 noCount theirs) "041234000000090000000700\n"
+    ∷ play 25 restrictedCrew (stored Phase.P5Tfp2 noCount theirs) (does PrivateAction.Reject) tfp2 tfp7 (stored Phase.P1 noCount theirs) "041234000000090000000704\n"
+    ∷ play 26 crew (stored Phase.P5Tfp2 noCount theirs) (expires PrivateTimer.Tfp2) noTimer tfp7 (stored Phase.P1 noCount theirs) "041234000000090000000704\n"
+    ∷ play 27 crew (stored Phase.P4 noCount ours) (hears (request 0 0)) noTimer noTimer (stored Phase.P4 noCount ours) "041235000000090000000702\n"
+    ∷ play 27 restrictedCrew (stored Phase.P2Tfp1 (cfp1At 2) ours) (hears (request 0 0)) noTimer noTimer (stored Phase.P2Tfp1 (cfp1At 2) ours) "041235000000090000000704\n"
+    ∷ play 28 crew (stored Phase.P1 noCount ours) (expires PrivateTimer.Tfp7) noTimer noTimer clearedRecord ""
+    ∷ play 29 crew (stored Phase.P4 noCount ours) (hears (Accept (ours .parties))) noTimer noTimer (stored Phase.P4 noCount ours) "0712340000000700000009\n"
+    ∷ []
+
+-- all come out
+abbrev pub AllComeOut : List Play → Type 0
+AllComeOut [] = Unit {0}
+AllComeOut (x ∷ xs) = ComesOut x × AllComeOut xs

@@ -42,10 +42,12 @@ done
 verdict "docs/PROMISES.md has every must-fail edit" "$wrong"
 
 wrong=''
-for name in $(quoted docs/PROMISES.md | grep -E '^[a-z_]+/[a-z0-9_]+$'); do
-    edits | grep -qx "$name" || wrong="$wrong $name"
+for page in docs/ROWS.md docs/PROMISES.md; do
+    for name in $(quoted "$page" | grep -E '^[a-z_]+/[a-z0-9_]+$'); do
+        edits | grep -qx "$name" || wrong="$wrong $page:$name"
+    done
 done
-verdict "every edit that docs/PROMISES.md names is there" "$wrong"
+verdict "every edit that docs/ROWS.md and docs/PROMISES.md name is there" "$wrong"
 
 wrong=''
 for page in docs/ROWS.md docs/PROMISES.md; do

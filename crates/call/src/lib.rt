@@ -1,4 +1,4 @@
-// What the private and the group machine share: settings, timers, user actions, events, verdicts, and what a step sends.
+// What the private and the group machine share: settings, timers, user actions, events, verdicts, what a step sends.
 mod number;
 mod requests;
 
@@ -161,8 +161,8 @@ impl Request {
     };
 }
 
-// The number that a step gives before it looks for a row: 7 for a setting, 9 for a record that is not well formed, 5 for
-// a field of a message, 8 for an argument of an action; 0 where there is nothing to refuse.
+// The number that a step gives before it looks for a row: 7 for a setting, 9 for a record that is not well formed,
+// 5 for a field of a message, 8 for an argument of an action; 0 where there is nothing to refuse.
 pub fn number_before_row(settings: Settings, well_formed: bool, input: Input) -> u8
     ensures { λ r. ⌜ r ≡ numberBeforeRow settings «well_formed» input ⌝ }
 {

@@ -1,6 +1,8 @@
 // What each row does: the table of the rows.
 ghost use mathlib.Core.Path.{_≡_};
-ghost use Rattle.private_effects.specs.Effects.{enters as entersOf, takes as takesOf, ends as endsOf, stays as staysOf, repeats as repeatsOf, turns as turnsOf, effectOf, reasonNumber};
+ghost use Rattle.private_effects.specs.Effects.{enters as entersOf, takes as takesOf, ends as endsOf};
+ghost use Rattle.private_effects.specs.Effects.{stays as staysOf, repeats as repeatsOf, turns as turnsOf};
+ghost use Rattle.private_effects.specs.Effects.{effectOf, reasonNumber};
 use private_rows::rows::Row;
 use private_rows::states::State;
 use private_rows::states::Timers;

@@ -1,6 +1,8 @@
 // What happens, and what a row may ask besides.
 ghost use mathlib.Core.Path.{_≡_};
-ghost use Rattle.private_rows.specs.Causes.{privateActionCause, actionCause, privateTimerCause, timerCause, setupCause, messageCause, causeOf, sameIdentifier, sameCall, messageSame, sameOf, pckAsked, trusted as trustedBy, factsOf};
+ghost use Rattle.private_rows.specs.Causes.{privateActionCause, actionCause, privateTimerCause, timerCause};
+ghost use Rattle.private_rows.specs.Causes.{setupCause, messageCause, causeOf, sameIdentifier, sameCall};
+ghost use Rattle.private_rows.specs.Causes.{messageSame, sameOf, pckAsked, trusted as trustedBy, factsOf};
 use crate::states::Phase;
 use crate::states::PrivateCall;
 use crate::states::count_of;

@@ -2,7 +2,8 @@
 ghost use mathlib.Core.Path.{_≡_};
 ghost use lib.Dec.{eqb};
 ghost use Rattle.private_rows.specs.Phases.{stateNumber};
-ghost use Rattle.private_rows.specs.Formed.{runningGood, counterGood, countersGood, noCall, oneOwn, roleGood, fieldsGood, callGood};
+ghost use Rattle.private_rows.specs.Formed.{runningGood, counterGood, countersGood, noCall, oneOwn, roleGood};
+ghost use Rattle.private_rows.specs.Formed.{fieldsGood, callGood};
 use crate::states::PrivateCall;
 use crate::states::State;
 use crate::states::Timers;

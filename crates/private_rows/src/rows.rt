@@ -1,7 +1,8 @@
 // The rows, and which of them is met.
 ghost use mathlib.Core.Path.{_≡_};
 ghost use mathlib.Core.Bool.{_&&_};
-ghost use Rattle.private_rows.specs.Found.{orderOf, atOf, met as metOf, either as eitherOf, setupRow, acceptRow, foundAt};
+ghost use Rattle.private_rows.specs.Found.{orderOf, atOf, met as metOf, either as eitherOf, setupRow};
+ghost use Rattle.private_rows.specs.Found.{acceptRow, foundAt};
 ghost use Rattle.private_rows.specs.Rows.{rowNumber, rowIn};
 use crate::causes::Cause;
 use crate::causes::Facts;

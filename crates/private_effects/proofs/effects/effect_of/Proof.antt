@@ -3,11 +3,6 @@ use borrow.Author.Needs.{needs}
 use Rattle.private_effects.proofs.effects.effect_of.Statement.{statement}
 use Rattle.private_effects.proofs.effects.effect_of.Tie as tie
 
--- /work/main/target/rlib/private_rows.rlib/interface/lang/src/states.rt:8:27
--- /work/main/target/rlib/private_rows.rlib/interface/lang/src/states.rt:8:27
--- /work/main/target/rlib/private_rows.rlib/interface/lang/src/states.rt:10:27
--- /work/main/target/rlib/private_rows.rlib/interface/lang/src/states.rt:11:27
--- /work/main/target/rlib/private_rows.rlib/interface/lang/src/states.rt:9:27
 pub effect-of-spec : {M : Type 1} → statement M
 effect-of-spec =
     tie.close

@@ -81,7 +81,9 @@ stays-good s state to c m g = go (eqb (c .parties .identifier) 0) g
     implied false b h e = absurd (false≢true e)
 
     role : (a b : Bool) → roleGood state a b ≡ true → roleGood to a b ≡ true
-    role a b = implied (roleGood state a b) (roleGood to a b) (at-bool (λ b. not (roleGood state a b) || roleGood to a b) (at-bool (λ a. bothBools (λ b. not (roleGood state a b) || roleGood to a b)) (parts .1) a) b)
+    role a b =
+        implied (roleGood state a b) (roleGood to a b)
+        (at-bool (λ b. not (roleGood state a b) || roleGood to a b) (at-bool (λ a. bothBools (λ b. not (roleGood state a b) || roleGood to a b)) (parts .1) a) b)
 
     users : (a b : Bool) → usersGood state a b ≡ true → usersGood to a b ≡ true
     users a b u = let h = and-split (oneOwn a b) (roleGood state a b) u in both (oneOwn a b) (roleGood to a b) (h .0) (role a b (h .1))
@@ -89,7 +91,9 @@ stays-good s state to c m g = go (eqb (c .parties .identifier) 0) g
     go : (b : Bool) → cond b (startStop state && noCall c) (fieldsGood c && usersOf s state c) ≡ true
         → cond b (startStop to && noCall c) (fieldsGood c && usersOf s to c) ≡ true
     go true h = let k = and-split (startStop state) (noCall c) h in both (startStop to) (noCall c) (implied (startStop state) (startStop to) (parts .0) (k .0)) (k .1)
-    go false h = let k = and-split (fieldsGood c) _ h in both (fieldsGood c) (usersOf s to c) (k .0) (users (eqb (c .parties .caller) (s .«own_user»)) (eqb (c .parties .callee) (s .«own_user»)) (k .1))
+    go false h =
+        let k = and-split (fieldsGood c) _ h in
+        both (fieldsGood c) (usersOf s to c) (k .0) (users (eqb (c .parties .caller) (s .«own_user»)) (eqb (c .parties .callee) (s .«own_user»)) (k .1))
 
 -- a setup request that is brought makes a good call
 new-good : (s : Settings) (to : State) (mine : Bool) (r : Request) (media : Media) → New (s .«own_user») mine r media

@@ -111,7 +111,8 @@ no-reply {k} {row} b s p i out xs e room enough =
     let told = line-done s p i out (m .0) in
     let line : stepLine s p i ≡ lineRepeated k (next .call) =
     ap (λ (r : Row). lineSent (carryOut s p i r .sent) (carryOut s p i r .next .call .media)) (m .1) ∙ first .2 ∙ ap (λ (q : PrivateRecord). lineRepeated k (q .call)) (sym done) in
-    let phase = counted-phase k (phaseOf next) (ap (λ (x : Timers). has x (timerOf k)) (sym (fit s next w .running)) ∙ ap (λ (q : PrivateRecord). has (q .running) (timerOf k)) done ∙ first .0) in
+    let runs = ap (λ (q : PrivateRecord). has (q .running) (timerOf k)) done ∙ first .0 in
+    let phase = counted-phase k (phaseOf next) (ap (λ (x : Timers). has x (timerOf k)) (sym (fit s next w .running)) ∙ runs) in
     let value = ap (λ (q : PrivateRecord). valueOf k (q .counters)) done ∙ first .1 in
     let limit = valueOf k (s .limits) in
     let positive = limit-least k s (t .settings) in

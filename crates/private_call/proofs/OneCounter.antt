@@ -178,7 +178,8 @@ module _ (k : Counter) (s : Settings) (p : PrivateRecord) (media : Media) (v : V
   row-by : (b : Bool) → ltb (valueOf k (p .counters)) (valueOf k (s .limits)) ≡ b → rowOf s p out-of ≡ cond b (again k) (over k)
   row-by b e =
       (λ j. rowIn (here j) (privateTimerCause (timerOf k)) (factsOf s (here j) (p .counters) (p .call) out-of))
-      ∙ counter-row k b (factsOf s (phaseWhere k) (p .counters) (p .call) out-of) (ap (λ (c : ℕ). ltb c (countOf (phaseWhere k) (s .limits))) (counts k (p .counters)) ∙ ap (ltb (valueOf k (p .counters))) (counts k (s .limits)) ∙ e)
+      ∙ counter-row k b (factsOf s (phaseWhere k) (p .counters) (p .call) out-of)
+      (ap (λ (c : ℕ). ltb c (countOf (phaseWhere k) (s .limits))) (counts k (p .counters)) ∙ ap (ltb (valueOf k (p .counters))) (counts k (s .limits)) ∙ e)
 
   -- it is not refused before it sends
   goes : (b : Bool) → ltb (valueOf k (p .counters)) (valueOf k (s .limits)) ≡ b → numberBeforeSending s p out-of ≡ 0

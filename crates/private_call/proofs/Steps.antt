@@ -64,7 +64,8 @@ module _ (s : Settings) (p : PrivateRecord) (i : Input) where
   unfolding stepOf
   keeps-well-formed out g w = go (eqb (stepNumber s p i out) 0) refl
     where
-      go : (b : Bool) → eqb (stepNumber s p i out) 0 ≡ b → wellFormed s (cond b (movedOf (rowOf s p i) (doneOf s p i) (length (stepLine s p i))) (refusedOf (stepNumber s p i out) p) .next) ≡ true
+      go : (b : Bool) → eqb (stepNumber s p i out) 0 ≡ b
+          → wellFormed s (cond b (movedOf (rowOf s p i) (doneOf s p i) (length (stepLine s p i))) (refusedOf (stepNumber s p i out) p) .next) ≡ true
       go true t = carried-well-formed s p i (tests-passed (step-passed out (eqb-true _ 0 t) .0) .0)
       go false t = w
 

@@ -37,10 +37,10 @@ tracePrivate s p (x ∷ inputs) =
     (stepOf s p (x .0) (x .1), stepBuffer s p (x .0) (x .1)) ∷ tracePrivate s (stepOf s p (x .0) (x .1) .next) inputs
 
 -- the lines at the front of the buffers
-abbrev pub linesOf : List (Stepped × List ℕ) → List (List ℕ)
-linesOf [] = []
-linesOf (x ∷ trace) = cond (eqb (x .0 .length) 0) (linesOf trace) (take (x .0 .length) (x .1) ∷ linesOf trace)
+abbrev pub frontLines : List (Stepped × List ℕ) → List (List ℕ)
+frontLines [] = []
+frontLines (x ∷ trace) = cond (eqb (x .0 .length) 0) (frontLines trace) (take (x .0 .length) (x .1) ∷ frontLines trace)
 
 -- the lines that are sent
 abbrev pub sentPrivate : Settings → PrivateRecord → List (Input × List ℕ) → List (List ℕ)
-sentPrivate s p inputs = linesOf (tracePrivate s p inputs)
+sentPrivate s p inputs = frontLines (tracePrivate s p inputs)

@@ -28,6 +28,7 @@ use Rattle.private_rows.specs.declared.states.PrivateCall.{PrivateCall}
 use Rattle.private_rows.specs.declared.states.PrivateRecord.{PrivateRecord}
 use Rattle.private_effects.specs.Carried.{withMedia}
 use Rattle.private_call.specs.Step.{stepOf, stepBuffer}
+use Rattle.private_call.specs.Running.{sentPrivate}
 use Rattle.demands.specs.Text.{bytes}
 
 -- ---- who plays
@@ -118,11 +119,11 @@ offered m possible = input (Event.Message m) possible
 abbrev pub does : PrivateAction → Input
 does a = input (Event.Action (Action.Private a)) true
 
--- the user starts call 1235 (hexadecimal) to 9, automatic, media 5, no security
-abbrev pub starts : Input
-starts =
+-- the user starts a call to 9, automatic, media 5, no security
+abbrev pub starts : ℕ → Input
+starts n =
     record {
-      event = Event.Action (Action.Private (PrivateAction.Start (record { identifier = 0x1235; callee = 9; commencement = 0; «pck_id» = 0 })));
+      event = Event.Action (Action.Private (PrivateAction.Start (record { identifier = n; callee = 9; commencement = 0; «pck_id» = 0 })));
       media = five;
       verdicts = record { media = false; signature = false };
     }
@@ -150,7 +151,7 @@ ComesOut (play row s p i stop start next line) =
 -- the plays in the order of the rows
 unfoldable pub plays : List Play
 plays =
-    play 1 crew (stored Phase.P1 noCount ours) starts tfp7 tfp1 (stored Phase.P2Tfp1 (cfp1At 1) (outgoing 0x1235)) "011235000000070000000900040000000500000000\n"
+    play 1 crew (stored Phase.P1 noCount ours) (starts 0x1235) tfp7 tfp1 (stored Phase.P2Tfp1 (cfp1At 1) (outgoing 0x1235)) "011235000000070000000900040000000500000000\n"
     ∷ play 2 crew (stored Phase.P2Tfp1 (cfp1At 1) ours) (expires PrivateTimer.Tfp1) noTimer tfp1 (stored Phase.P2Tfp1 (cfp1At 2) ours) "011234000000070000000900040000000500000000\n"
     ∷ play 3 crew (stored Phase.P2Tfp1 (cfp1At 3) ours) (expires PrivateTimer.Tfp1) noTimer tfp7 (stored Phase.P1 noCount ours) ""
     ∷ play 4 crew (stored Phase.P2Tfp1 (cfp1At 2) ours) (hears (Ringing (ours .parties))) tfp1 tfp2 (stored Phase.P2Tfp2 noCount ours) ""
@@ -191,3 +192,18 @@ plays =
 abbrev pub AllComeOut : List Play → Type 0
 AllComeOut [] = Unit {0}
 AllComeOut (x ∷ xs) = ComesOut x × AllComeOut xs
+
+-- ---- a run
+
+-- from the cleared record: the user starts call 1234 (hexadecimal), hears ACCEPT with media 6, and ends the call
+abbrev pub run : List (Input × List ℕ)
+run = (starts 0x1234, lent) ∷ (hears (Accept (ours .parties)), lent) ∷ (does PrivateAction.End, lent) ∷ []
+
+-- what is sent on the way
+abbrev pub runLines : List (List ℕ)
+runLines =
+    bytes "011234000000070000000900040000000500000000\n" ∷ bytes "0712340000000700000009\n" ∷ bytes "0512340000000700000009\n" ∷ []
+
+-- it comes out so
+unfoldable pub RunComesOut : Type 0
+RunComesOut = sentPrivate crew clearedRecord run ≡ runLines

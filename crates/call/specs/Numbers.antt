@@ -21,10 +21,10 @@ use Rattle.call.specs.declared.Event.{Event}
 use Rattle.call.specs.declared.Input.{Input}
 
 -- a message's fields are in range; other events have none
-abbrev pub messageGood : Event → Media → Bool
-messageGood (Event.Action a) media = true
-messageGood (Event.Expiry t) media = true
-messageGood (Event.Message m) media = inRange m media
+abbrev pub heardGood : Event → Media → Bool
+heardGood (Event.Action a) media = true
+heardGood (Event.Expiry t) media = true
+heardGood (Event.Message m) media = inRange m media
 
 -- a private start: its arguments have the ranges of the setup request that it makes, and the callee is not own
 abbrev pub privateStartGood : Settings → PrivateStart → Media → Bool
@@ -67,7 +67,7 @@ argumentsGood s (Event.Message m) media = true
 -- the tests of a step before it looks for a row, in their order: a setting, the record, a field of a message, an argument of an action
 abbrev pub testsBeforeRow : Settings → Bool → Input → List (ℕ × Bool)
 testsBeforeRow s wellFormed i =
-    (7, not (settingsGood s)) ∷ (9, not wellFormed) ∷ (5, not (messageGood (i .event) (i .media)))
+    (7, not (settingsGood s)) ∷ (9, not wellFormed) ∷ (5, not (heardGood (i .event) (i .media)))
     ∷ (8, not (argumentsGood s (i .event) (i .media))) ∷ []
 
 -- the first of them that is given, or 0

@@ -1,6 +1,6 @@
 // What the private and the group machine share: settings, timers, user actions, events, verdicts, what a step sends.
 mod number;
-mod requests;
+pub mod requests;
 
 ghost use mathlib.Core.Path.{_≡_};
 ghost use Rattle.call.specs.Numbers.{numberBeforeRow};
@@ -174,7 +174,7 @@ pub fn number_before_row(settings: Settings, well_formed: bool, input: Input) ->
     }
     let event = input.event;
     let media = input.media;
-    if !number::message_good(event, media) {
+    if !number::heard_good(event, media) {
         return 5;
     }
     if !number::arguments_good(settings, event, media) {

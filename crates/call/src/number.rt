@@ -4,7 +4,7 @@ ghost use Rattle.frame.specs.Digits.{four};
 ghost use Rattle.frame.specs.Range.{neverZero};
 ghost use Rattle.call.specs.Settings.{limitGood, limitsGood, settingsGood};
 ghost use Rattle.call.specs.Request.{startedGroupCall};
-ghost use Rattle.call.specs.Numbers.{messageGood, privateStartGood, privateArgumentsGood, groupStartGood};
+ghost use Rattle.call.specs.Numbers.{heardGood, privateStartGood, privateArgumentsGood, groupStartGood};
 ghost use Rattle.call.specs.Numbers.{raiseGood, groupArgumentsGood, actionGood, argumentsGood};
 use crate::Action;
 use crate::Counters;
@@ -51,8 +51,8 @@ pub(crate) fn settings_good(settings: Settings) -> bool
 }
 
 // A message's fields are in range; other events have none.
-pub(crate) fn message_good(event: Event, media: Media) -> bool
-    ensures { λ r. ⌜ r ≡ messageGood event media ⌝ }
+pub(crate) fn heard_good(event: Event, media: Media) -> bool
+    ensures { λ r. ⌜ r ≡ heardGood event media ⌝ }
 {
     match event {
         Event::Action(_) => true,

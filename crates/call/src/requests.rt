@@ -1,6 +1,6 @@
 // The setup request that an event brings.
 ghost use mathlib.Core.Path.{_≡_};
-ghost use Rattle.call.specs.Request.{startRequest, privateActionRequest, actionRequest, messageRequest};
+ghost use Rattle.call.specs.Request.{privateRequest, startRequest, privateActionRequest, actionRequest, messageRequest};
 use crate::Action;
 use crate::PrivateAction;
 use crate::PrivateStart;
@@ -10,22 +10,33 @@ use frame::Message;
 use frame::Parties;
 use frame::Setup;
 
+// The setup request of a private call.
+pub fn private_request(parties: Parties, commencement: u8, pck_id: u32) -> Request
+    ensures { λ r. ⌜ r ≡ privateRequest parties commencement «pck_id» ⌝ }
+{
+    Request {
+        parties: parties,
+        setup: Setup {
+            commencement: commencement,
+            call_type: Setup::PRIVATE,
+            pck_id: pck_id,
+        },
+    }
+}
+
 // The setup request that the user's start makes.
 pub(crate) fn start_request(settings: Settings, start: PrivateStart) -> Request
     ensures { λ r. ⌜ r ≡ startRequest settings start ⌝ }
 {
-    Request {
-        parties: Parties {
+    private_request(
+        Parties {
             identifier: start.identifier,
             caller: settings.own_user,
             callee: start.callee,
         },
-        setup: Setup {
-            commencement: start.commencement,
-            call_type: Setup::PRIVATE,
-            pck_id: start.pck_id,
-        },
-    }
+        start.commencement,
+        start.pck_id,
+    )
 }
 
 // The setup request that a private action brings.

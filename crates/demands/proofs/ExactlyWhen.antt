@@ -21,7 +21,7 @@ use Rattle.frame.proofs.Judged.{not-all}
 use Rattle.log.specs.Answer.{answerOf, answerNumber}
 use Rattle.call.specs.Settings.{settingsGood}
 use Rattle.call.specs.Request.{requestOf}
-use Rattle.call.specs.Numbers.{messageGood, argumentsGood}
+use Rattle.call.specs.Numbers.{heardGood, argumentsGood}
 use Rattle.call.specs.declared.Settings.{Settings}
 use Rattle.call.specs.declared.Input.{Input}
 use Rattle.private_rows.specs.Formed.{wellFormed}
@@ -189,7 +189,7 @@ step-exactly-when s p i out =
     rows : List Row
     rows =
         (7, not (settingsGood s), SettingOut s) ∷ (9, not (wellFormed s p), Unformed s p)
-        ∷ (5, not (messageGood (i .event) (i .media)), FieldOut i)
+        ∷ (5, not (heardGood (i .event) (i .media)), FieldOut i)
         ∷ (8, not (argumentsGood s (i .event) (i .media)) || identifierTaken s p (i .event) (rowOf s p i), ArgumentOut s i ⊎ IdentifierStored s p i)
         ∷ (6, ltb (length out) (length (stepLine s p i)), StepRoomless s p i out) ∷ []
 

@@ -13,7 +13,7 @@ use Rattle.frame.specs.declared.Message.{Message}
 use Rattle.log.specs.Answer.{answerOf}
 use Rattle.call.specs.Settings.{settingsGood}
 use Rattle.call.specs.Request.{requestOf}
-use Rattle.call.specs.Numbers.{messageGood, argumentsGood}
+use Rattle.call.specs.Numbers.{heardGood, argumentsGood}
 use Rattle.call.specs.declared.Settings.{Settings}
 use Rattle.call.specs.declared.Input.{Input}
 use Rattle.private_rows.specs.Formed.{wellFormed}
@@ -85,7 +85,7 @@ Unformed s p = wellFormed s p ≡ false
 
 -- 5: the event is a message, and a field of it is outside its range
 abbrev pub FieldOut : Input → Type 0
-FieldOut i = messageGood (i .event) (i .media) ≡ false
+FieldOut i = heardGood (i .event) (i .media) ≡ false
 
 -- 8: the event is an action, and an argument of it is outside its range or the callee is own
 abbrev pub ArgumentOut : Settings → Input → Type 0

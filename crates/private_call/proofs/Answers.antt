@@ -9,7 +9,7 @@ use borrow.Author.Tests.{eq-eqb, ne-eqb}
 use Rattle.frame.specs.Number.{firstGiven}
 use Rattle.call.specs.Numbers.{numberBeforeRow}
 use Rattle.call.specs.Settings.{settingsGood}
-use Rattle.call.specs.Numbers.{messageGood, argumentsGood}
+use Rattle.call.specs.Numbers.{heardGood, argumentsGood}
 use Rattle.call.specs.Sending.{sendNumber, sendTold, sendBuffer}
 use Rattle.call.specs.declared.Settings.{Settings}
 use Rattle.call.specs.declared.Input.{Input}
@@ -49,7 +49,7 @@ module _ (s : Settings) (p : PrivateRecord) (i : Input) (out : List ℕ) where
   parts : numberBeforeSending s p i ≡ cond (eqb before 0) (cond taken 8 0) before
   unfolding numberBeforeRow
   parts =
-      fifth (not (settingsGood s)) (not (wellFormed s p)) (not (messageGood (i .event) (i .media)))
+      fifth (not (settingsGood s)) (not (wellFormed s p)) (not (heardGood (i .event) (i .media)))
       (not (argumentsGood s (i .event) (i .media))) taken
 
   -- a number that is not 0 refuses

@@ -11,7 +11,7 @@ use Rattle.frame.specs.declared.Parties.{Parties}
 use Rattle.frame.specs.declared.Message.the-variants.{SetupRequest, Ringing, Accept, Reject, Release, ReleaseAck, AcceptAck, Announcement, GroupAccept}
 use Rattle.frame.proofs.Laws.{and-split}
 use Rattle.call.specs.Request.{asMessage, startRequest, requestOf}
-use Rattle.call.specs.Numbers.{messageGood, argumentsGood}
+use Rattle.call.specs.Numbers.{heardGood, argumentsGood}
 use Rattle.call.specs.declared.Settings.{Settings}
 use Rattle.call.specs.declared.PrivateTimer.{PrivateTimer}
 use Rattle.call.specs.declared.Timer.{Timer}
@@ -129,7 +129,7 @@ unfolding inRange
 accept-brings own p r media e = record { call = λ z. absurd (false≢true z); itsMedia = λ z. and-split (mediaGood media) _ e .0 }
 
 -- an event that is not refused brings what its cause says
-pub brings : (s : Settings) (e : Event) (media : Media) → messageGood e media ≡ true → argumentsGood s e media ≡ true
+pub brings : (s : Settings) (e : Event) (media : Media) → heardGood e media ≡ true → argumentsGood s e media ≡ true
     → Brings (s .«own_user») (causeOf s e) (requestOf s e) media
 brings s (Event.Action (Action.Private (PrivateAction.Start x))) media g a = start-brings (s .«own_user») (startRequest s x) media refl a
 brings s (Event.Action (Action.Private PrivateAction.End)) media g a = neither refl refl

@@ -10,7 +10,7 @@ use Rattle.call.specs.declared.Settings.{Settings}
 use Rattle.call.specs.declared.Verdicts.{Verdicts}
 use Rattle.call.specs.declared.PrivateTimer.{PrivateTimer}
 use Rattle.private_rows.specs.Phases.{tfp7, noTimer, runningOf, phaseIn}
-use Rattle.private_rows.specs.Formed.{noneCalled, clearedRecord, wellFormed}
+use Rattle.private_rows.specs.Formed.{noCall, clearedRecord, wellFormed}
 use Rattle.private_rows.specs.Causes.{factsOf}
 use Rattle.private_rows.specs.Rows.{rowNumber, rowIn, phaseOf}
 use Rattle.private_rows.specs.declared.states.State.{State}
@@ -63,7 +63,7 @@ clears s p media v out g w e =
     ∙ (λ j. record {
       number = 0;
       row = 28;
-      next = record { state = State.P0; running = t .0 j; counters = countersAfter (t .0 j) (t .2 j) false (s .limits) (p .counters); call = noneCalled };
+      next = record { state = State.P0; running = t .0 j; counters = countersAfter (t .0 j) (t .2 j) false (s .limits) (p .counters); call = noCall };
       stop = t .1 j;
       start = t .2 j;
       length = 0;

@@ -12,7 +12,7 @@ use Rattle.private_rows.specs.declared.rows.Row.{Row}
 use Rattle.private_effects.specs.Effects.{effectOf}
 use Rattle.private_effects.specs.Carried.{ranOut, changes, startedOf, stoppedOf, countersAfter, startedBy, carryOut}
 use Rattle.private_effects.specs.declared.effects.Effect.{Effect}
-use Rattle.private_call.specs.NoReply.{Counter, cfp1, cfp3, cfp4, valueOf, timerOf}
+use Rattle.private_call.specs.NoReply.{Counter, cfp1, cfp3, cfp4, countIn, timerOf}
 
 -- whether a timer is stopped
 stopped-one : (changed : Bool) (asked was started out : Timers) (t : PrivateTimer) → has (stoppedOf changed asked was started out) t
@@ -61,7 +61,7 @@ module _ (s : Settings) (p : PrivateRecord) (i : Input) (row : Row) where
       ∙ spares (changes (p .state) (effect .to)) (has (effect .stop) t) (has (p .running) t) (has (startedBy (p .state) effect) t) (has (ranOut (i .event)) t) e
 
   -- a counter whose timer does not run is 0
-  pub counter-rests : (k : Counter) → has (carryOut s p i row .next .running) (timerOf k) ≡ false → valueOf k (carryOut s p i row .next .counters) ≡ 0
+  pub counter-rests : (k : Counter) → has (carryOut s p i row .next .running) (timerOf k) ≡ false → countIn k (carryOut s p i row .next .counters) ≡ 0
   unfolding carryOut countersAfter
   counter-rests cfp1 e = rw e
   counter-rests cfp3 e = rw e

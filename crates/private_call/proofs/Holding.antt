@@ -14,7 +14,7 @@ use Rattle.frame.proofs.Laws.{and-split, within-split}
 use Rattle.call.specs.Request.{asMessage}
 use Rattle.call.specs.declared.Settings.{Settings}
 use Rattle.call.specs.declared.Request.{Request}
-use Rattle.private_rows.specs.Formed.{noCall, callRequest, fieldsGood, oneOwn, roleGood, usersGood, usersOf, callGood}
+use Rattle.private_rows.specs.Formed.{callNone, callRequest, fieldsGood, oneOwn, roleGood, usersGood, usersOf, callGood}
 use Rattle.private_rows.specs.Rows.{sameCause}
 use Rattle.private_rows.specs.declared.states.State.{State}
 use Rattle.private_rows.specs.declared.states.PrivateCall.{PrivateCall}
@@ -88,9 +88,9 @@ stays-good s state to c m g = go (eqb (c .parties .identifier) 0) g
     users : (a b : Bool) → usersGood state a b ≡ true → usersGood to a b ≡ true
     users a b u = let h = and-split (oneOwn a b) (roleGood state a b) u in both (oneOwn a b) (roleGood to a b) (h .0) (role a b (h .1))
 
-    go : (b : Bool) → cond b (startStop state && noCall c) (fieldsGood c && usersOf s state c) ≡ true
-        → cond b (startStop to && noCall c) (fieldsGood c && usersOf s to c) ≡ true
-    go true h = let k = and-split (startStop state) (noCall c) h in both (startStop to) (noCall c) (implied (startStop state) (startStop to) (parts .0) (k .0)) (k .1)
+    go : (b : Bool) → cond b (startStop state && callNone c) (fieldsGood c && usersOf s state c) ≡ true
+        → cond b (startStop to && callNone c) (fieldsGood c && usersOf s to c) ≡ true
+    go true h = let k = and-split (startStop state) (callNone c) h in both (startStop to) (callNone c) (implied (startStop state) (startStop to) (parts .0) (k .0)) (k .1)
     go false h =
         let k = and-split (fieldsGood c) _ h in
         both (fieldsGood c) (usersOf s to c) (k .0) (users (eqb (c .parties .caller) (s .«own_user»)) (eqb (c .parties .callee) (s .«own_user»)) (k .1))
@@ -109,8 +109,8 @@ held-parts : (s : Settings) (state : State) (c : PrivateCall) → startStop stat
     → (fieldsGood c ≡ true) × (usersOf s state c ≡ true)
 held-parts s state c p g = go (eqb (c .parties .identifier) 0) g
   where
-    go : (b : Bool) → cond b (startStop state && noCall c) (fieldsGood c && usersOf s state c) ≡ true → (fieldsGood c ≡ true) × (usersOf s state c ≡ true)
-    go true h = absurd (true≢false (sym (and-split (startStop state) (noCall c) h .0) ∙ p))
+    go : (b : Bool) → cond b (startStop state && callNone c) (fieldsGood c && usersOf s state c) ≡ true → (fieldsGood c ≡ true) × (usersOf s state c ≡ true)
+    go true h = absurd (true≢false (sym (and-split (startStop state) (callNone c) h .0) ∙ p))
     go false h = and-split (fieldsGood c) (usersOf s state c) h
 
 -- in range

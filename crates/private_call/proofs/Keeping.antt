@@ -11,7 +11,7 @@ use Rattle.frame.specs.declared.Message.{Message}
 use Rattle.frame.proofs.Laws.{and-split}
 use Rattle.call.specs.Settings.{restricted, limitsGood, settingsGood}
 use Rattle.call.specs.Request.{requestOf}
-use Rattle.call.specs.Numbers.{messageGood, argumentsGood}
+use Rattle.call.specs.Numbers.{heardGood, argumentsGood}
 use Rattle.call.specs.declared.Settings.{Settings}
 use Rattle.call.specs.declared.Input.{Input}
 use Rattle.call.specs.declared.Request.{Request}
@@ -107,7 +107,7 @@ limits-good s e = and-split (neverZero four (s .«own_group»)) _ (and-split (ne
 pub record Taken (s : Settings) (p : PrivateRecord) (i : Input) : Type 0 where
   pub settings : settingsGood s ≡ true
   pub formed : wellFormed s p ≡ true
-  pub message : messageGood (i .event) (i .media) ≡ true
+  pub message : heardGood (i .event) (i .media) ≡ true
   pub arguments : argumentsGood s (i .event) (i .media) ≡ true
 
 module _ (s : Settings) (p : PrivateRecord) (i : Input) (t : Taken s p i) where

@@ -25,7 +25,7 @@ use Rattle.private_rows.proofs.WellFormed.{fit}
 use Rattle.private_effects.specs.Carried.{startedOf, runningAfter, countersAfter, carryOut}
 use Rattle.private_call.specs.Step.{stepLine, stepOf}
 use Rattle.private_call.specs.Running.{expiry, runPrivate, sentPrivate}
-use Rattle.private_call.specs.NoReply.{Counter, cfp1, cfp3, cfp4, valueOf, timerOf, phaseWhere, lineRepeated, Begins, by-R1, by-R8, by-R9, by-R20, by-R23, expiries, Roomy, atMost}
+use Rattle.private_call.specs.NoReply.{Counter, cfp1, cfp3, cfp4, countIn, timerOf, phaseWhere, lineRepeated, Begins, by-R1, by-R8, by-R9, by-R20, by-R23, expiries, Roomy, atMost}
 use Rattle.private_call.proofs.Counting.{least}
 use Rattle.private_call.proofs.Keeping.{limits-good}
 use Rattle.private_call.proofs.Steps.{tests-passed, step-passed, keeps-well-formed}
@@ -34,7 +34,7 @@ use Rattle.private_call.proofs.OneCounter.{line-bytes, step-sends, step
 
 -- from where a counter stands, r below its limit: r more sendings at most, and P1 after one expiry more
 pub one-counter : (k : Counter) (s : Settings) (p : PrivateRecord) (xs : List (Media × Verdicts × List ℕ)) (r : ℕ) → settingsGood s ≡ true → wellFormed s p ≡ true
-    → phaseOf p ≡ phaseWhere k → valueOf k (p .counters) + r ≡ valueOf k (s .limits) → Roomy (length (lineRepeated k (p .call))) xs
+    → phaseOf p ≡ phaseWhere k → countIn k (p .counters) + r ≡ countIn k (s .limits) → Roomy (length (lineRepeated k (p .call))) xs
     → (sentPrivate s p (expiries (timerOf k) xs) ≡ replicate (atMost (length xs) r) (lineRepeated k (p .call)))
     × (r < length xs → runPrivate s p (expiries (timerOf k) xs) .state ≡ State.P1)
 one-counter k s p [] r g w here e room = (refl, λ h. absurd (not-suc-le-zero h))
@@ -60,7 +60,7 @@ one-counter k s p (x ∷ xs) (suc r) g w here e room =
 
 -- the rows that begin start the timer, set the counter to 1 and send the message
 begins : {k : Counter} {row : Row} → Begins k row → (s : Settings) (p : PrivateRecord) (i : Input) → let d = carryOut s p i row in
-    (has (d .next .running) (timerOf k) ≡ true) × (valueOf k (d .next .counters) ≡ 1)
+    (has (d .next .running) (timerOf k) ≡ true) × (countIn k (d .next .counters) ≡ 1)
     × (lineSent (d .sent) (d .next .call .media) ≡ lineRepeated k (d .next .call))
 unfolding carryOut startedOf runningAfter countersAfter
 begins by-R1 s p i = (refl, refl, refl)
@@ -78,12 +78,12 @@ begins-row by-R20 e = omega (arith, e)
 begins-row by-R23 e = omega (arith, e)
 
 -- a limit is 1 or more
-limit-least : (k : Counter) (s : Settings) → settingsGood s ≡ true → 1 ≤ valueOf k (s .limits)
+limit-least : (k : Counter) (s : Settings) → settingsGood s ≡ true → 1 ≤ countIn k (s .limits)
 limit-least k s g =
     let a = and-split (limitGood (s .limits .cfp1)) _ (limits-good s g) in
     let b = and-split (limitGood (s .limits .cfp3)) (limitGood (s .limits .cfp4)) (a .1) in go k (least _ (a .0)) (least _ (b .0)) (least _ (b .1))
   where
-    go : (k : Counter) → 1 ≤ s .limits .cfp1 → 1 ≤ s .limits .cfp3 → 1 ≤ s .limits .cfp4 → 1 ≤ valueOf k (s .limits)
+    go : (k : Counter) → 1 ≤ s .limits .cfp1 → 1 ≤ s .limits .cfp3 → 1 ≤ s .limits .cfp4 → 1 ≤ countIn k (s .limits)
     go cfp1 x y z = x
     go cfp3 x y z = y
     go cfp4 x y z = z
@@ -98,8 +98,8 @@ at-most-second (suc m) (suc n) h = ap suc (at-most-second m n (le-of-suc-le-suc 
 -- a step that sends the message for the first time, and then as many expiries of its timer as the limit or more, with room for each line:
 -- the message was sent as often as the limit says, each time the same line, and the state is P1
 pub no-reply : {k : Counter} {row : Row} → Begins k row → (s : Settings) (p : PrivateRecord) (i : Input) (out : List ℕ)
-    (xs : List (Media × Verdicts × List ℕ)) → stepOf s p i out .row ≡ rowNumber row → Roomy (length (stepLine s p i)) xs → valueOf k (s .limits) ≤ length xs
-    → (sentPrivate s p ((i, out) ∷ expiries (timerOf k) xs) ≡ replicate (valueOf k (s .limits)) (stepLine s p i))
+    (xs : List (Media × Verdicts × List ℕ)) → stepOf s p i out .row ≡ rowNumber row → Roomy (length (stepLine s p i)) xs → countIn k (s .limits) ≤ length xs
+    → (sentPrivate s p ((i, out) ∷ expiries (timerOf k) xs) ≡ replicate (countIn k (s .limits)) (stepLine s p i))
     × (runPrivate s p ((i, out) ∷ expiries (timerOf k) xs) .state ≡ State.P1)
 no-reply {k} {row} b s p i out xs e room enough =
     let m = row-met s p i out row (begins-row b) e in
@@ -113,8 +113,8 @@ no-reply {k} {row} b s p i out xs e room enough =
     ap (λ (r : Row). lineSent (carryOut s p i r .sent) (carryOut s p i r .next .call .media)) (m .1) ∙ first .2 ∙ ap (λ (q : PrivateRecord). lineRepeated k (q .call)) (sym done) in
     let runs = ap (λ (q : PrivateRecord). has (q .running) (timerOf k)) done ∙ first .0 in
     let phase = counted-phase k (phaseOf next) (ap (λ (x : Timers). has x (timerOf k)) (sym (fit s next w .running)) ∙ runs) in
-    let value = ap (λ (q : PrivateRecord). valueOf k (q .counters)) done ∙ first .1 in
-    let limit = valueOf k (s .limits) in
+    let value = ap (λ (q : PrivateRecord). countIn k (q .counters)) done ∙ first .1 in
+    let limit = countIn k (s .limits) in
     let positive = limit-least k s (t .settings) in
     let r = limit - 1 in
     let rest = one-counter k s next xs r (t .settings) w phase (omega (arith, value, positive)) (subst (λ (l : List ℕ). Roomy (length l) xs) line room) in

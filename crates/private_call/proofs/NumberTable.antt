@@ -11,7 +11,7 @@ use Rattle.frame.specs.Number.{firstGiven}
 use Rattle.frame.specs.Writing.{writeNumber}
 use Rattle.frame.specs.declared.Media.{Media}
 use Rattle.call.specs.Settings.{settingsGood}
-use Rattle.call.specs.Numbers.{messageGood, argumentsGood}
+use Rattle.call.specs.Numbers.{heardGood, argumentsGood}
 use Rattle.call.specs.Sending.{lineSent, sendNumber}
 use Rattle.call.specs.declared.Settings.{Settings}
 use Rattle.call.specs.declared.Input.{Input}
@@ -44,14 +44,14 @@ sixth false false false false false r w h = h refl
 -- the tests of a step in the order of the table: a setting, the record, a field of a message, an argument or the identifier of R1, the room for the line
 abbrev pub tableTests : Settings → PrivateRecord → Input → List ℕ → List (ℕ × Bool)
 tableTests s p i out =
-    (7, not (settingsGood s)) ∷ (9, not (wellFormed s p)) ∷ (5, not (messageGood (i .event) (i .media)))
+    (7, not (settingsGood s)) ∷ (9, not (wellFormed s p)) ∷ (5, not (heardGood (i .event) (i .media)))
     ∷ (8, not (argumentsGood s (i .event) (i .media)) || identifierTaken s p (i .event) (rowOf s p i))
     ∷ (6, ltb (length out) (length (stepLine s p i))) ∷ []
 
 -- the number of a step is the first of them that is given: the writer's 5 never shows
 pub step-number : (s : Settings) (p : PrivateRecord) (i : Input) (out : List ℕ) → stepNumber s p i out ≡ firstGiven (tableTests s p i out)
 step-number s p i out =
-    sixth (not (settingsGood s)) (not (wellFormed s p)) (not (messageGood (i .event) (i .media)))
+    sixth (not (settingsGood s)) (not (wellFormed s p)) (not (heardGood (i .event) (i .media)))
     (not (argumentsGood s (i .event) (i .media))) (identifierTaken s p (i .event) (rowOf s p i)) (ltb (length out) (length (stepLine s p i)))
     (sendNumber (doneOf s p i .sent) (doneOf s p i .next .call .media) out)
     (λ e. room-alone (doneOf s p i .sent) (doneOf s p i .next .call .media) out (sends-good s p i e))

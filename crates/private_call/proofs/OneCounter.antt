@@ -34,7 +34,7 @@ use Rattle.private_effects.specs.Effects.{effectOf}
 use Rattle.private_effects.specs.Carried.{privateTimerOut, startedOf, stoppedOf, runningAfter, countersAfter, oneMore, startedBy, runningBy, carryOut}
 use Rattle.private_call.specs.Step.{numberBeforeSending, stepOf, stepBuffer}
 use Rattle.private_call.specs.Running.{expiry, runPrivate, sentPrivate}
-use Rattle.private_call.specs.NoReply.{Counter, cfp1, cfp3, cfp4, valueOf, timerOf, phaseWhere, repeated, lineRepeated, expiries}
+use Rattle.private_call.specs.NoReply.{Counter, cfp1, cfp3, cfp4, countIn, timerOf, phaseWhere, repeated, lineRepeated, expiries}
 use Rattle.private_call.specs.declared.Stepped.{Stepped}
 use Rattle.private_call.proofs.MarkedSteps.{carries, next-done, line-done, expiry-taken, expiry-discarded}
 use Rattle.private_call.proofs.NumberTable.{step-goes}
@@ -73,7 +73,7 @@ not-first cfp4 true = refl
 not-first cfp4 false = refl
 
 -- the counter that counts is the one of the phase
-counts : (k : Counter) (c : Counters) → countOf (phaseWhere k) c ≡ valueOf k c
+counts : (k : Counter) (c : Counters) → countOf (phaseWhere k) c ≡ countIn k c
 counts cfp1 c = refl
 counts cfp3 c = refl
 counts cfp4 c = refl
@@ -90,7 +90,7 @@ again-timers cfp4 a b = rw (a, b) refl
 
 -- its counter gets one more
 again-value : (k : Counter) (state : State) {running : Timers} (limits counters : Counters) → running ≡ runningOf (phaseWhere k)
-    → valueOf k (countersAfter running (startedBy state (effectOf (again k) state)) (effectOf (again k) state .again) limits counters) ≡ oneMore (valueOf k limits) (valueOf k counters)
+    → countIn k (countersAfter running (startedBy state (effectOf (again k) state)) (effectOf (again k) state .again) limits counters) ≡ oneMore (countIn k limits) (countIn k counters)
 unfolding startedOf countersAfter
 again-value cfp1 state limits counters e = rw e refl
 again-value cfp3 state limits counters e = rw e refl
@@ -175,20 +175,20 @@ module _ (k : Counter) (s : Settings) (p : PrivateRecord) (media : Media) (v : V
   out-of = expiry (timerOf k) media v
 
   -- the row by whether the counter is under its limit
-  row-by : (b : Bool) → ltb (valueOf k (p .counters)) (valueOf k (s .limits)) ≡ b → rowOf s p out-of ≡ cond b (again k) (over k)
+  row-by : (b : Bool) → ltb (countIn k (p .counters)) (countIn k (s .limits)) ≡ b → rowOf s p out-of ≡ cond b (again k) (over k)
   row-by b e =
       (λ j. rowIn (here j) (privateTimerCause (timerOf k)) (factsOf s (here j) (p .counters) (p .call) out-of))
       ∙ counter-row k b (factsOf s (phaseWhere k) (p .counters) (p .call) out-of)
-      (ap (λ (c : ℕ). ltb c (countOf (phaseWhere k) (s .limits))) (counts k (p .counters)) ∙ ap (ltb (valueOf k (p .counters))) (counts k (s .limits)) ∙ e)
+      (ap (λ (c : ℕ). ltb c (countOf (phaseWhere k) (s .limits))) (counts k (p .counters)) ∙ ap (ltb (countIn k (p .counters))) (counts k (s .limits)) ∙ e)
 
   -- it is not refused before it sends
-  goes : (b : Bool) → ltb (valueOf k (p .counters)) (valueOf k (s .limits)) ≡ b → numberBeforeSending s p out-of ≡ 0
+  goes : (b : Bool) → ltb (countIn k (p .counters)) (countIn k (s .limits)) ≡ b → numberBeforeSending s p out-of ≡ 0
   goes b e = expiry-taken s p (timerOf k) media v g w (ap (λ (row : Row). eqb (rowNumber row) 1) (row-by b e) ∙ not-first k b)
 
   -- under the limit: the line, the phase, one more
-  pub expires-again : (out : List ℕ) → valueOf k (p .counters) < valueOf k (s .limits) → length (lineRepeated k (p .call)) ≤ length out
+  pub expires-again : (out : List ℕ) → countIn k (p .counters) < countIn k (s .limits) → length (lineRepeated k (p .call)) ≤ length out
       → (stepOf s p out-of out .length ≡ length (lineRepeated k (p .call))) × (stepBuffer s p out-of out ≡ atFront (lineRepeated k (p .call)) out)
-      × (phaseOf (stepOf s p out-of out .next) ≡ phaseWhere k) × (valueOf k (stepOf s p out-of out .next .counters) ≡ suc (valueOf k (p .counters)))
+      × (phaseOf (stepOf s p out-of out .next) ≡ phaseWhere k) × (countIn k (stepOf s p out-of out .next .counters) ≡ suc (countIn k (p .counters)))
       × (stepOf s p out-of out .next .call ≡ p .call)
   unfolding carryOut
   expires-again out under room =
@@ -205,12 +205,12 @@ module _ (k : Counter) (s : Settings) (p : PrivateRecord) (media : Media) (v : V
         told .0 ∙ ap length line,
         told .1 ∙ ap (λ (l : List ℕ). atFront l out) line,
         ap phaseOf done ∙ (λ j. phaseIn ((sym (same .0) ∙ state) j) (running j)) ∙ phase-back k,
-        ap (λ (q : PrivateRecord). valueOf k (q .counters)) done ∙ again-value k (p .state) (s .limits) (p .counters) running ∙ one-more _ _ under,
+        ap (λ (q : PrivateRecord). countIn k (q .counters)) done ∙ again-value k (p .state) (s .limits) (p .counters) running ∙ one-more _ _ under,
         ap (λ (q : PrivateRecord). q .call) done ∙ sym (same .1),
       )
 
   -- at the limit: no line, and P1
-  pub expires-last : (out : List ℕ) → valueOf k (s .limits) ≤ valueOf k (p .counters)
+  pub expires-last : (out : List ℕ) → countIn k (s .limits) ≤ countIn k (p .counters)
       → (stepOf s p out-of out .length ≡ 0) × (stepOf s p out-of out .next .state ≡ State.P1)
   expires-last out full =
       let e = goes false (le-ltb _ _ full) in

@@ -10,7 +10,7 @@ use borrow.Author.Tests.{eq-eqb, eqb-true, eqb-false}
 use Rattle.frame.specs.Lent.{lentAfter}
 use Rattle.frame.proofs.Laws.{passed}
 use Rattle.call.specs.Settings.{settingsGood}
-use Rattle.call.specs.Numbers.{messageGood, argumentsGood}
+use Rattle.call.specs.Numbers.{heardGood, argumentsGood}
 use Rattle.call.specs.Sending.{lineSent, sendNumber}
 use Rattle.call.specs.declared.Settings.{Settings}
 use Rattle.call.specs.declared.Input.{Input}
@@ -40,7 +40,7 @@ module _ (s : Settings) (p : PrivateRecord) (i : Input) where
   tests-passed e =
       let a = passed (not (settingsGood s)) 7 _ (omega arith) e in
       let b = passed (not (wellFormed s p)) 9 _ (omega arith) (a .1) in
-      let c = passed (not (messageGood (i .event) (i .media))) 5 _ (omega arith) (b .1) in
+      let c = passed (not (heardGood (i .event) (i .media))) 5 _ (omega arith) (b .1) in
       let d = passed (not (argumentsGood s (i .event) (i .media))) 8 _ (omega arith) (c .1) in
       let f = passed (identifierTaken s p (i .event) (rowOf s p i)) 8 0 (omega arith) (d .1) in
       (record { settings = holds _ (a .0); formed = holds _ (b .0); message = holds _ (c .0); arguments = holds _ (d .0) }, f .0)

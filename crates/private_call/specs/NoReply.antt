@@ -25,10 +25,10 @@ pub data Counter : Type 0 where
   cfp4 : Counter
 
 -- its value among the counters, or its limit among the limits
-abbrev pub valueOf : Counter → Counters → ℕ
-valueOf cfp1 c = c .cfp1
-valueOf cfp3 c = c .cfp3
-valueOf cfp4 c = c .cfp4
+abbrev pub countIn : Counter → Counters → ℕ
+countIn cfp1 c = c .cfp1
+countIn cfp3 c = c .cfp3
+countIn cfp4 c = c .cfp4
 
 -- its timer
 abbrev pub timerOf : Counter → PrivateTimer

@@ -50,8 +50,8 @@ fn identifier_taken(settings: Settings, stored: PrivateRecord, event: Event, row
     (row_number(row) == 1) & (request.parties.identifier == stored.call.parties.identifier)
 }
 
-// A step that is not refused before its line is written.
-fn carried(row: Row, done: Carried, written: Written) -> Stepped
+// A step that was carried out, with the length of its line.
+fn moved(row: Row, done: Carried, written: Written) -> Stepped
     ensures { λ r. ⌜ r ≡ movedOf row done (written .length) ⌝ }
 {
     let next = done.next;
@@ -88,5 +88,5 @@ pub fn step(settings: Settings, stored: PrivateRecord, input: Input, out: &mut [
     if written.number != 0 {
         return refused(written.number, stored);
     }
-    carried(row, done, written)
+    moved(row, done, written)
 }

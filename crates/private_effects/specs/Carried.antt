@@ -17,7 +17,7 @@ use Rattle.call.specs.declared.Input.{Input}
 use Rattle.call.specs.declared.Request.{Request}
 use Rattle.call.specs.declared.Send.{Send}
 use Rattle.private_rows.specs.Phases.{stateNumber, has, setOf, noTimer, tfp1, tfp2, tfp3, tfp4, tfp5, tfp7}
-use Rattle.private_rows.specs.Formed.{noneCalled, callRequest}
+use Rattle.private_rows.specs.Formed.{noCall, callRequest}
 use Rattle.private_effects.specs.Effects.{reasonNumber, effectOf}
 use Rattle.private_rows.specs.declared.states.State.{State}
 use Rattle.private_rows.specs.declared.states.Timers.{Timers}
@@ -113,7 +113,7 @@ abbrev pub heldOf : Hold → PrivateCall → Request → Media → PrivateCall
 heldOf Hold.Keep stored r media = stored
 heldOf Hold.Request stored r media = callOf r media
 heldOf Hold.Media stored r media = withMedia stored media
-heldOf Hold.Clear stored r media = noneCalled
+heldOf Hold.Clear stored r media = noCall
 
 -- ---- the message
 

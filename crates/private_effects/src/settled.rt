@@ -17,10 +17,10 @@ use call::Request;
 use call::Send;
 use call::Settings;
 use call::Timer;
+use call::requests::private_request;
 use frame::Media;
 use frame::Message;
 use frame::Parties;
-use frame::Setup;
 use private_rows::states::PrivateCall;
 use private_rows::states::State;
 use private_rows::states::Timers;
@@ -240,19 +240,15 @@ fn reason_or(settings: Settings, reason: Reason) -> u8
     }
 }
 
-// The setup request of a call.
-fn request_again(call: PrivateCall) -> Message
+// The setup request of a call, as a message.
+fn setup_request(call: PrivateCall) -> Message
     ensures { λ r. ⌜ r ≡ asMessage (callRequest call) ⌝ }
 {
     let parties = call.parties;
-    Message::SetupRequest(
-        parties,
-        Setup {
-            commencement: call.commencement,
-            call_type: Setup::PRIVATE,
-            pck_id: call.pck_id,
-        },
-    )
+    let request = private_request(parties, call.commencement, call.pck_id);
+    let same_parties = request.parties;
+    let setup = request.setup;
+    Message::SetupRequest(same_parties, setup)
 }
 
 // What is sent, from the call held afterwards; where another call is refused, with the parties of its request.
@@ -262,7 +258,7 @@ pub(crate) fn sent(settings: Settings, say: Say, call: PrivateCall, other: Parti
     let parties = call.parties;
     match say {
         Say::Nothing => Send::Nothing,
-        Say::SetupRequest => Send::Message(request_again(call)),
+        Say::SetupRequest => Send::Message(setup_request(call)),
         Say::Ringing => Send::Message(Message::Ringing(parties)),
         Say::Accept => Send::Message(Message::Accept(parties)),
         Say::Release => Send::Message(Message::Release(parties)),

@@ -1,4 +1,4 @@
--- The code finds the row that is met, and no event meets two rows. Assumes nothing.
+-- The code finds the row that is met; the expiry of a timer that does not run meets none. Assumes nothing.
 use Prim.Native.Nat.{ℕ}
 use mathlib.Core.Path.{_≡_, refl, sym, ap, _∙_}
 use mathlib.Core.List.{List, [], _∷_}

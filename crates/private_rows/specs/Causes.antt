@@ -100,7 +100,7 @@ sameOf (Event.Action a) stored = false
 sameOf (Event.Expiry t) stored = false
 sameOf (Event.Message m) stored = messageSame m stored
 
--- the PCK-ID that the signature is asked for: that of the request received, else the stored one
+-- the PCK-ID that the signature is asked for: with a message that of its setup request, else the stored one
 abbrev pub pckAsked : Event → Request → ℕ → ℕ
 pckAsked (Event.Action a) r stored = stored
 pckAsked (Event.Expiry t) r stored = stored

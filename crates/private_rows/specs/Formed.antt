@@ -16,12 +16,12 @@ use Rattle.private_rows.specs.declared.states.PrivateCall.{PrivateCall}
 use Rattle.private_rows.specs.declared.states.PrivateRecord.{PrivateRecord}
 
 -- no call
-abbrev pub noneCalled : PrivateCall
-noneCalled = record { parties = noParties; commencement = 0; media = noMedia; «pck_id» = 0 }
+abbrev pub noCall : PrivateCall
+noCall = record { parties = noParties; commencement = 0; media = noMedia; «pck_id» = 0 }
 
 -- the cleared record
 abbrev pub clearedRecord : PrivateRecord
-clearedRecord = record { state = State.P0; running = noTimer; counters = record { cfp1 = 0; cfp3 = 0; cfp4 = 0 }; call = noneCalled }
+clearedRecord = record { state = State.P0; running = noTimer; counters = record { cfp1 = 0; cfp3 = 0; cfp4 = 0 }; call = noCall }
 
 -- ---- the running timers
 
@@ -44,8 +44,8 @@ countersGood running limits counters =
 -- ---- the call
 
 -- every field is 0
-abbrev pub noCall : PrivateCall → Bool
-noCall c =
+abbrev pub callNone : PrivateCall → Bool
+callNone c =
     eqb (c .parties .identifier) 0
     && (eqb (c .parties .caller) 0
     && (eqb (c .parties .callee) 0 && (eqb (c .commencement) 0 && (mediaNone (c .media) && eqb (c .«pck_id») 0))))
@@ -82,7 +82,7 @@ usersOf s state c = usersGood state (eqb (c .parties .caller) (s .«own_user»))
 -- the identifier is 0 in P0 alone, and then every field is; otherwise every field is in range, and so are the users
 abbrev pub callGood : Settings → State → PrivateCall → Bool
 callGood s state c =
-    cond (eqb (c .parties .identifier) 0) (eqb (stateNumber state) 0 && noCall c)
+    cond (eqb (c .parties .identifier) 0) (eqb (stateNumber state) 0 && callNone c)
     (fieldsGood c && usersOf s state c)
 
 -- a record is well formed under the settings

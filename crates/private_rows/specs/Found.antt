@@ -20,11 +20,11 @@ orderOf Phase.P4 = 5
 orderOf Phase.P5Tfp2 = 6
 orderOf Phase.P5Tfp4 = 7
 
--- which of the phases that rows ask for a phase is
+-- the answers of a phase to what rows ask of it
 abbrev pub atOf : Phase → At
 atOf f =
     record {
-      fresh = leb (orderOf f) 1;
+      «p0_or_p1» = leb (orderOf f) 1;
       p1 = eqb (orderOf f) 1;
       p2 = eqb (orderOf f) 2 || eqb (orderOf f) 3;
       «p2_tfp1» = eqb (orderOf f) 2;
@@ -33,7 +33,7 @@ atOf f =
       p4 = eqb (orderOf f) 5;
       «p5_tfp2» = eqb (orderOf f) 6;
       «p5_tfp4» = eqb (orderOf f) 7;
-      later = leb 4 (orderOf f);
+      «p3_to_p5» = leb 4 (orderOf f);
     }
 
 -- a row that is met where all that it asks holds
@@ -46,7 +46,7 @@ either asked row askedElse other = cond asked row (cond askedElse other Discard)
 
 -- the row of a setup request that counts and is not the same
 abbrev pub setupRow : Bool → Facts → Row
-setupRow fresh x = cond (not fresh) R27 (cond (not (x .media)) R19 (cond (x .manual) R22 (cond (x .trusted) R20 R21)))
+setupRow early x = cond (not early) R27 (cond (not (x .media)) R19 (cond (x .manual) R22 (cond (x .trusted) R20 R21)))
 
 -- the row of an accept
 abbrev pub acceptRow : At → Facts → Row
@@ -54,7 +54,7 @@ acceptRow at x = either (at .p2 && (x .same && x .media)) R5 (at .p4 && (x .«ow
 
 -- the row by the cause
 abbrev pub foundAt : At → Cause → Facts → Row
-foundAt at Cause.UserStarts x = met (at .fresh) R1
+foundAt at Cause.UserStarts x = met (at .«p0_or_p1») R1
 foundAt at Cause.UserEnds x = either (at .p2) R8 (at .p4) R9
 foundAt at Cause.UserAccepts x = either (at .«p5_tfp2» && x .trusted) R23 (at .«p5_tfp2») R24
 foundAt at Cause.UserRejects x = met (at .«p5_tfp2») R25
@@ -64,11 +64,11 @@ foundAt at Cause.Tfp3Expires x = either (at .p3 && x .under) R10 (at .p3) R11
 foundAt at Cause.Tfp4Expires x = either (at .«p5_tfp4» && x .under) R16 (at .«p5_tfp4») R17
 foundAt at Cause.Tfp5Expires x = met (at .p4) R15
 foundAt at Cause.Tfp7Expires x = met (at .p1) R28
-foundAt at Cause.SetupHeard x = met (not (x .same)) (setupRow (at .fresh) x)
+foundAt at Cause.SetupHeard x = met (not (x .same)) (setupRow (at .«p0_or_p1») x)
 foundAt at Cause.RingingHeard x = met (at .«p2_tfp1» && x .same) R4
 foundAt at Cause.AcceptHeard x = acceptRow at x
 foundAt at Cause.RejectHeard x = met (at .p2 && x .same) R6
-foundAt at Cause.ReleaseHeard x = either (at .p1 && x .same) R14 (at .later && x .same) R13
+foundAt at Cause.ReleaseHeard x = either (at .p1 && x .same) R14 (at .«p3_to_p5» && x .same) R13
 foundAt at Cause.ReleaseAckHeard x = met (at .p3 && x .same) R12
 foundAt at Cause.AcceptAckHeard x = met (at .«p5_tfp4» && x .same) R18
 foundAt at Cause.Other x = Discard

@@ -189,7 +189,7 @@ fn same_of(event: Event, stored: Parties) -> bool
     }
 }
 
-// The PCK-ID that the signature is asked for: that of the request received, else the stored one.
+// The PCK-ID that the signature is asked for: with a message that of its setup request, else the stored one.
 fn pck_asked(event: Event, request: Request, stored: u32) -> u32
     ensures { λ r. ⌜ r ≡ pckAsked event request stored ⌝ }
 {

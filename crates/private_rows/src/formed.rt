@@ -2,7 +2,7 @@
 ghost use mathlib.Core.Path.{_≡_};
 ghost use lib.Dec.{eqb};
 ghost use Rattle.private_rows.specs.Phases.{stateNumber};
-ghost use Rattle.private_rows.specs.Formed.{runningGood, counterGood, countersGood, noCall, oneOwn, roleGood};
+ghost use Rattle.private_rows.specs.Formed.{runningGood, counterGood, countersGood, callNone, oneOwn, roleGood};
 ghost use Rattle.private_rows.specs.Formed.{fieldsGood, callGood};
 use crate::states::PrivateCall;
 use crate::states::State;
@@ -12,9 +12,8 @@ use crate::states::running_of;
 use crate::states::same_timers;
 use call::Counters;
 use call::Settings;
+use call::requests::private_request;
 use frame::Message;
-use frame::Parties;
-use frame::Setup;
 use frame::carried::media_none;
 use frame::range::in_range;
 
@@ -47,7 +46,7 @@ pub(crate) fn counters_good(running: Timers, limits: Counters, counters: Counter
 
 // Every field of the call is 0.
 fn no_call(call: PrivateCall) -> bool
-    ensures { λ r. ⌜ r ≡ noCall call ⌝ }
+    ensures { λ r. ⌜ r ≡ callNone call ⌝ }
 {
     let parties = call.parties;
     let media = call.media;
@@ -98,17 +97,10 @@ fn fields_good(call: PrivateCall) -> bool
 {
     let parties = call.parties;
     let media = call.media;
-    in_range(
-        Message::SetupRequest(
-            parties,
-            Setup {
-                commencement: call.commencement,
-                call_type: Setup::PRIVATE,
-                pck_id: call.pck_id,
-            },
-        ),
-        media,
-    )
+    let request = private_request(parties, call.commencement, call.pck_id);
+    let same_parties = request.parties;
+    let setup = request.setup;
+    in_range(Message::SetupRequest(same_parties, setup), media)
 }
 
 // The call: none, in P0 alone; or every field in range, and own the one that it must be.

@@ -1,6 +1,5 @@
 // The rows, and which of them is met.
 ghost use mathlib.Core.Path.{_≡_};
-ghost use mathlib.Core.Bool.{_&&_};
 ghost use Rattle.private_rows.specs.Found.{orderOf, atOf, met as metOf, either as eitherOf, setupRow};
 ghost use Rattle.private_rows.specs.Found.{acceptRow, foundAt};
 ghost use Rattle.private_rows.specs.Rows.{rowNumber, rowIn};
@@ -42,9 +41,9 @@ pub enum Row {
     R29,
 }
 
-// Which of the phases that rows ask for a phase is.
+// The answers of a phase to what rows ask of it.
 struct At {
-    fresh: bool,
+    p0_or_p1: bool,
     p1: bool,
     p2: bool,
     p2_tfp1: bool,
@@ -53,7 +52,7 @@ struct At {
     p4: bool,
     p5_tfp2: bool,
     p5_tfp4: bool,
-    later: bool,
+    p3_to_p5: bool,
 }
 
 // The phases in their order.
@@ -72,13 +71,13 @@ fn order(phase: Phase) -> u8
     }
 }
 
-// Which of the phases that rows ask for this is.
+// The answers of a phase to what rows ask of it.
 fn at_phase(phase: Phase) -> At
     ensures { λ r. ⌜ r ≡ atOf phase ⌝ }
 {
     let n = order(phase);
     At {
-        fresh: n <= 1,
+        p0_or_p1: n <= 1,
         p1: n == 1,
         p2: (n == 2) | (n == 3),
         p2_tfp1: n == 2,
@@ -87,7 +86,7 @@ fn at_phase(phase: Phase) -> At
         p4: n == 5,
         p5_tfp2: n == 6,
         p5_tfp4: n == 7,
-        later: 4 <= n,
+        p3_to_p5: 4 <= n,
     }
 }
 
@@ -110,10 +109,10 @@ fn either(asked: bool, row: Row, asked_else: bool, other: Row) -> Row
 }
 
 // The row of a setup request that counts and is not the same.
-fn setup_row(fresh: bool, facts: Facts) -> Row
-    ensures { λ r. ⌜ r ≡ setupRow fresh facts ⌝ }
+fn setup_row(p0_or_p1: bool, facts: Facts) -> Row
+    ensures { λ r. ⌜ r ≡ setupRow «p0_or_p1» facts ⌝ }
 {
-    if !fresh {
+    if !p0_or_p1 {
         return Row::R27;
     }
     if !facts.media {
@@ -130,7 +129,7 @@ fn found_at(at: At, cause: Cause, x: Facts) -> Row
     ensures { λ r. ⌜ r ≡ foundAt at cause x ⌝ }
 {
     match cause {
-        Cause::UserStarts => met(at.fresh, Row::R1),
+        Cause::UserStarts => met(at.p0_or_p1, Row::R1),
         Cause::UserEnds => either(at.p2, Row::R8, at.p4, Row::R9),
         Cause::UserAccepts => either(at.p5_tfp2 & x.trusted, Row::R23, at.p5_tfp2, Row::R24),
         Cause::UserRejects => met(at.p5_tfp2, Row::R25),
@@ -140,11 +139,11 @@ fn found_at(at: At, cause: Cause, x: Facts) -> Row
         Cause::Tfp4Expires => either(at.p5_tfp4 & x.under, Row::R16, at.p5_tfp4, Row::R17),
         Cause::Tfp5Expires => met(at.p4, Row::R15),
         Cause::Tfp7Expires => met(at.p1, Row::R28),
-        Cause::SetupHeard => met(!x.same, setup_row(at.fresh, x)),
+        Cause::SetupHeard => met(!x.same, setup_row(at.p0_or_p1, x)),
         Cause::RingingHeard => met(at.p2_tfp1 & x.same, Row::R4),
         Cause::AcceptHeard => accept_row(at, x),
         Cause::RejectHeard => met(at.p2 & x.same, Row::R6),
-        Cause::ReleaseHeard => either(at.p1 & x.same, Row::R14, at.later & x.same, Row::R13),
+        Cause::ReleaseHeard => either(at.p1 & x.same, Row::R14, at.p3_to_p5 & x.same, Row::R13),
         Cause::ReleaseAckHeard => met(at.p3 & x.same, Row::R12),
         Cause::AcceptAckHeard => met(at.p5_tfp4 & x.same, Row::R18),
         Cause::Other => Row::Discard,

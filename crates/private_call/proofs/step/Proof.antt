@@ -67,7 +67,7 @@ returns-4 c =
     let d = w .before .before .before .before .before in
     let n = sent w in
     let r = carried-out _ _ _ _ (sym (number (d .before .before .before)) ∙ d .before .before .if1 .left) (sym (taken d) ∙ w .before .before .before .before .if2 .left) (ap (λ (x : Written). x .number) (sym (n .0)) ∙ c .before .if3 .left) in
-    (rw (c .carried .ensures, done (w .before .before .before), d .before .row-of .ensures, n .0) (r .0), n .1 ∙ r .1)
+    (rw (c .moved .ensures, done (w .before .before .before), d .before .row-of .ensures, n .0) (r .0), n .1 ∙ r .1)
 
 pub step-spec : {M : Type 1} → statement M
 step-spec =

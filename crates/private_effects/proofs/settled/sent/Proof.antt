@@ -20,7 +20,7 @@ sent-spec =
     (λ c. search needs)
     (λ c κs. search needs)
     (λ c. rw (c .enum-told .given .1))
-    (λ c. rw (c .request-again .ensures, c .before .enum-told2 .given .1))
+    (λ c. rw (c .setup-request .ensures, c .before .enum-told2 .given .1))
     (λ c. rw (c .enum-told3 .given .1))
     (λ c. rw (c .enum-told4 .given .1))
     (λ c. rw (c .enum-told5 .given .1))

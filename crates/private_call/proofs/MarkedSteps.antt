@@ -18,7 +18,7 @@ use Rattle.call.specs.declared.PrivateTimer.{PrivateTimer}
 use Rattle.call.specs.declared.Input.{Input}
 use Rattle.private_rows.specs.Phases.{has, noTimer, tfp2, tfp4, stateOf, runningOf, phaseIn}
 use Rattle.private_rows.specs.Formed.{counterGood, wellFormed}
-use Rattle.private_rows.specs.Causes.{factsOf}
+use Rattle.private_rows.specs.Causes.{causeOf, factsOf}
 use Rattle.private_rows.specs.Rows.{rowNumber, runs, rowIn, phaseOf, rowOf}
 use Rattle.private_rows.specs.declared.states.State.{State}
 use Rattle.private_rows.specs.declared.states.Phase.{Phase}
@@ -28,7 +28,7 @@ use Rattle.private_rows.specs.declared.causes.Cause.{Cause}
 use Rattle.private_rows.specs.declared.causes.Facts.{Facts}
 use Rattle.private_rows.specs.declared.rows.Row.{Row}
 use Rattle.private_rows.specs.declared.rows.Row.the-variants.{Discard, R3, R23}
-use Rattle.private_rows.proofs.Meets.{same-row, quiet-expiry}
+use Rattle.private_rows.proofs.Meets.{same-row, found-is-met, quiet-expiry}
 use Rattle.private_rows.proofs.WellFormed.{Fit, fit}
 use Rattle.private_effects.specs.Effects.{effectOf}
 use Rattle.private_effects.specs.Carried.{startedOf, stoppedOf, runningAfter, runningBy, carryOut}
@@ -36,6 +36,7 @@ use Rattle.private_call.specs.Step.{numberBeforeSending, doneOf, stepLin
 use Rattle.private_call.specs.declared.Stepped.{Stepped}
 use Rattle.private_call.specs.Running.{expiry, userAccepts}
 use Rattle.private_call.specs.NoReply.{Counter, cfp1, cfp3, cfp4, timerOf, phaseWhere}
+use Rattle.private_call.proofs.Keeping.{Taken}
 use Rattle.private_call.proofs.Steps.{stepFrom, tests-passed, step-passed, keeps-well-formed, discards}
 
 -- ---- a step by its row
@@ -57,6 +58,11 @@ pub line-done : (s : Settings) (p : PrivateRecord) (i : Input) (out : List ℕ) 
     → (stepOf s p i out .length ≡ length (stepLine s p i)) × (stepBuffer s p i out ≡ atFront (stepLine s p i) out)
 unfolding stepOf stepBuffer
 line-done s p i out e = rw (eq-eqb (stepNumber s p i out) 0 e) (refl, refl)
+
+-- the row of a step that is not refused
+pub row-done : (s : Settings) (p : PrivateRecord) (i : Input) (out : List ℕ) → stepNumber s p i out ≡ 0 → stepOf s p i out .row ≡ rowNumber (rowOf s p i)
+unfolding stepOf
+row-done s p i out e = rw (eq-eqb (stepNumber s p i out) 0 e) refl
 
 -- a row above 0 is that of a step that is not refused
 pub row-met : (s : Settings) (p : PrivateRecord) (i : Input) (out : List ℕ) (row : Row) → (rowNumber row ≡ 0 → ⊥) → stepOf s p i out .row ≡ rowNumber row
@@ -86,6 +92,20 @@ expiry-discarded s p t media v out g w h =
     let f = fit s p w in
     let r = quiet-expiry t (phaseOf p) (factsOf s (phaseOf p) (p .counters) (p .call) i) (ap (λ (x : Timers). has x t) (sym (f .running)) ∙ h) in
     discards s p i out (expiry-taken s p t media v g w (ap (λ (row : Row). eqb (rowNumber row) 1) r)) r
+
+-- ---- what is not for this machine
+
+-- what can meet no row meets none
+other-row : (f : Phase) (x : Facts) → rowIn f Cause.Other x ≡ Discard
+other-row f x = sym (found-is-met f Cause.Other x)
+
+-- a group action, a group timer, kinds 08 and 09, a setup request that does not count: discarded, unless a field is refused
+pub other-discarded : (s : Settings) (p : PrivateRecord) (i : Input) (out : List ℕ) → Taken s p i → causeOf s (i .event) ≡ Cause.Other
+    → (stepOf s p i out ≡ discarded p) × (stepBuffer s p i out ≡ out)
+other-discarded s p i out t c =
+    let x = factsOf s (phaseOf p) (p .counters) (p .call) i in
+    let r = ap (λ (d : Cause). rowIn (phaseOf p) d x) c ∙ other-row (phaseOf p) x in
+    discards s p i out (rw (t .settings, t .formed, t .message, t .arguments, ap (λ (row : Row). eqb (rowNumber row) 1) r)) r
 
 -- ---- a second accept
 

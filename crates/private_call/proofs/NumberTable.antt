@@ -1,15 +1,17 @@
 -- The number of a step is the first of a table: 7, 9, 5, 8, 6. Assumes nothing.
 use Prim.Native.Nat.{ℕ, _≤_}
-use mathlib.Core.Path.{_≡_, refl, ap, _∙_}
+use mathlib.Core.Path.{_≡_, refl, sym, ap, _∙_}
 use mathlib.Core.List.{List, [], _∷_}
 use mathlib.Core.Bool.{Bool, true, false, cond, not, _||_}
 use native.Mathlib.Omega.{arith}
 use lib.ListN.{length}
 use lib.Dec.{ltb, eqb}
-use borrow.Author.Tests.{le-ltb, eq-eqb}
+use borrow.Author.Tests.{le-ltb, eq-eqb, eqb-true}
 use Rattle.frame.specs.Number.{firstGiven}
+use Rattle.frame.specs.Layout.{longestLine}
 use Rattle.frame.specs.Writing.{writeNumber}
 use Rattle.frame.specs.declared.Media.{Media}
+use Rattle.frame.proofs.Longest.{longest-line}
 use Rattle.call.specs.Settings.{settingsGood}
 use Rattle.call.specs.Numbers.{heardGood, argumentsGood}
 use Rattle.call.specs.Sending.{lineSent, sendNumber}
@@ -65,3 +67,18 @@ step-goes s p i out e h =
   where
     go : (n w : ℕ) → n ≡ 0 → w ≡ 0 → cond (eqb n 0) w n ≡ 0
     go n w a b = rw (eq-eqb n 0 a) b
+
+-- no line is longer than the longest
+line-at-most : (sent : Send) (media : Media) → length (lineSent sent media) ≤ longestLine
+line-at-most Send.Nothing media = omega arith
+line-at-most (Send.Message m) media = longest-line .0 m media
+
+-- with room for the longest line 6 never comes up: the number is that of the tests
+pub longest-has-room : (s : Settings) (p : PrivateRecord) (i : Input) (out : List ℕ) → longestLine ≤ length out → stepNumber s p i out ≡ numberBeforeSending s p i
+longest-has-room s p i out h = go (eqb (numberBeforeSending s p i) 0) refl
+  where
+    go : (b : Bool) → eqb (numberBeforeSending s p i) 0 ≡ b → stepNumber s p i out ≡ numberBeforeSending s p i
+    go true t =
+        let z = eqb-true (numberBeforeSending s p i) 0 t in
+        let l = line-at-most (doneOf s p i .sent) (doneOf s p i .next .call .media) in step-goes s p i out z (omega (arith, l, h)) ∙ sym z
+    go false t = rw t

@@ -36,19 +36,19 @@ use Rattle.private_call.specs.Step.{numberBeforeSending, stepOf, stepBuf
 use Rattle.private_call.specs.Running.{expiry, runPrivate, sentPrivate}
 use Rattle.private_call.specs.NoReply.{Counter, cfp1, cfp3, cfp4, countIn, timerOf, phaseWhere, repeated, lineRepeated, expiries}
 use Rattle.private_call.specs.declared.Stepped.{Stepped}
-use Rattle.private_call.proofs.MarkedSteps.{carries, next-done, line-done, expiry-taken, expiry-discarded}
+use Rattle.private_call.proofs.MarkedSteps.{carries, next-done, line-done, row-done, expiry-taken, expiry-discarded}
 use Rattle.private_call.proofs.NumberTable.{step-goes}
 
 -- ---- the two rows of a counter
 
 -- under its limit
-abbrev again : Counter → Row
+abbrev pub again : Counter → Row
 again cfp1 = R2
 again cfp3 = R10
 again cfp4 = R16
 
 -- at its limit
-abbrev over : Counter → Row
+abbrev pub over : Counter → Row
 over cfp1 = R3
 over cfp3 = R11
 over cfp4 = R17
@@ -185,11 +185,11 @@ module _ (k : Counter) (s : Settings) (p : PrivateRecord) (media : Media) (v : V
   goes : (b : Bool) → ltb (countIn k (p .counters)) (countIn k (s .limits)) ≡ b → numberBeforeSending s p out-of ≡ 0
   goes b e = expiry-taken s p (timerOf k) media v g w (ap (λ (row : Row). eqb (rowNumber row) 1) (row-by b e) ∙ not-first k b)
 
-  -- under the limit: the line, the phase, one more
+  -- under the limit: the line, the phase, one more; R2, R10 or R16
   pub expires-again : (out : List ℕ) → countIn k (p .counters) < countIn k (s .limits) → length (lineRepeated k (p .call)) ≤ length out
       → (stepOf s p out-of out .length ≡ length (lineRepeated k (p .call))) × (stepBuffer s p out-of out ≡ atFront (lineRepeated k (p .call)) out)
       × (phaseOf (stepOf s p out-of out .next) ≡ phaseWhere k) × (countIn k (stepOf s p out-of out .next .counters) ≡ suc (countIn k (p .counters)))
-      × (stepOf s p out-of out .next .call ≡ p .call)
+      × (stepOf s p out-of out .next .call ≡ p .call) × (stepOf s p out-of out .row ≡ rowNumber (again k))
   unfolding carryOut
   expires-again out under room =
       let e = goes true (lt-ltb _ _ under) in
@@ -207,11 +207,12 @@ module _ (k : Counter) (s : Settings) (p : PrivateRecord) (media : Media) (v : V
         ap phaseOf done ∙ (λ j. phaseIn ((sym (same .0) ∙ state) j) (running j)) ∙ phase-back k,
         ap (λ (q : PrivateRecord). countIn k (q .counters)) done ∙ again-value k (p .state) (s .limits) (p .counters) running ∙ one-more _ _ under,
         ap (λ (q : PrivateRecord). q .call) done ∙ sym (same .1),
+        row-done s p out-of out n ∙ ap rowNumber r,
       )
 
-  -- at the limit: no line, and P1
+  -- at the limit: no line, and P1; R3, R11 or R17
   pub expires-last : (out : List ℕ) → countIn k (s .limits) ≤ countIn k (p .counters)
-      → (stepOf s p out-of out .length ≡ 0) × (stepOf s p out-of out .next .state ≡ State.P1)
+      → (stepOf s p out-of out .length ≡ 0) × (stepOf s p out-of out .next .state ≡ State.P1) × (stepOf s p out-of out .row ≡ rowNumber (over k))
   expires-last out full =
       let e = goes false (le-ltb _ _ full) in
       let r = row-by false (le-ltb _ _ full) in
@@ -219,4 +220,5 @@ module _ (k : Counter) (s : Settings) (p : PrivateRecord) (media : Media) (v : V
       let done = carries s p out-of out (over k) e r (ap (λ (x : Send). sendNumber x (carryOut s p out-of (over k) .next .call .media) out) (last .0)) in (
         ap (λ (x : Stepped). x .length) done ∙ ap (λ (x : Send). length (lineSent x (carryOut s p out-of (over k) .next .call .media))) (last .0),
         ap (λ (x : Stepped). x .next .state) done ∙ last .1,
+        ap (λ (x : Stepped). x .row) done,
       )

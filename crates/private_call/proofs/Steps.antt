@@ -1,6 +1,6 @@
 -- A step keeps the record well formed, its timers agree, and what it sends is in range. Assumes nothing.
 use Prim.Native.Nat.{ℕ}
-use mathlib.Core.Path.{_≡_, refl, sym}
+use mathlib.Core.Path.{_≡_, refl, sym, ap, _∙_}
 use mathlib.Core.List.{List}
 use mathlib.Core.Bool.{Bool, true, false, cond, not}
 use native.Mathlib.Omega.{arith}
@@ -15,10 +15,11 @@ use Rattle.call.specs.Sending.{lineSent, sendNumber}
 use Rattle.call.specs.declared.Settings.{Settings}
 use Rattle.call.specs.declared.Input.{Input}
 use Rattle.private_rows.specs.Formed.{wellFormed}
-use Rattle.private_rows.specs.Rows.{rowOf}
+use Rattle.private_rows.specs.Rows.{rowNumber, rowOf}
 use Rattle.private_rows.specs.declared.states.PrivateRecord.{PrivateRecord}
 use Rattle.private_rows.specs.declared.rows.Row.{Row}
 use Rattle.private_rows.specs.declared.rows.Row.the-variants.{Discard}
+use Rattle.private_rows.proofs.Meets.{same-row}
 use Rattle.private_rows.proofs.WellFormed.{fit}
 use Rattle.private_effects.specs.Carried.{ranOut, runningAfter, carryOut}
 use Rattle.private_effects.specs.declared.Carried.{Carried}
@@ -56,6 +57,16 @@ module _ (s : Settings) (p : PrivateRecord) (i : Input) where
 
       go : (n w : ℕ) → cond (eqb n 0) w n ≡ 0 → (n ≡ 0) × (w ≡ 0)
       go n w h = pick (eqb n 0) n w refl h
+
+  -- the number of the answer
+  pub number-told : (out : List ℕ) → stepOf s p i out .number ≡ stepNumber s p i out
+  unfolding stepOf
+  number-told out = go (eqb (stepNumber s p i out) 0) refl
+    where
+      go : (b : Bool) → eqb (stepNumber s p i out) 0 ≡ b
+          → cond b (movedOf (rowOf s p i) (doneOf s p i) (length (stepLine s p i))) (refusedOf (stepNumber s p i out) p) .number ≡ stepNumber s p i out
+      go true t = sym (eqb-true (stepNumber s p i out) 0 t)
+      go false t = refl
 
   -- ---- keeps-well-formed
 
@@ -102,3 +113,18 @@ unfolding stepOf stepBuffer
 discards s p i out e r =
     let d = carried-nothing s p i (fit s p (tests-passed s p i e .0 .formed)) r in
     (λ j. stepFrom p out (e j) (r j) (d j), λ j. bufferFrom out (e j) (d j))
+
+-- an answer with row 0, be it a discard or a refusal, changes nothing
+pub row-0-keeps : (s : Settings) (p : PrivateRecord) (i : Input) (out : List ℕ) → stepOf s p i out .row ≡ 0
+    → (stepOf s p i out ≡ refusedOf (stepNumber s p i out) p) × (stepBuffer s p i out ≡ out)
+unfolding stepOf stepBuffer
+row-0-keeps s p i out e = go (eqb (stepNumber s p i out) 0) refl e
+  where
+    go : (b : Bool) → eqb (stepNumber s p i out) 0 ≡ b
+        → cond b (movedOf (rowOf s p i) (doneOf s p i) (length (stepLine s p i))) (refusedOf (stepNumber s p i out) p) .row ≡ 0
+        → (stepOf s p i out ≡ refusedOf (stepNumber s p i out) p) × (stepBuffer s p i out ≡ out)
+    go true t h =
+        let z = eqb-true (stepNumber s p i out) 0 t in
+        let d = discards s p i out (step-passed s p i out z .0) (same-row (rowOf s p i) Discard (eq-eqb (rowNumber (rowOf s p i)) 0 h)) in
+        (d .0 ∙ ap (λ (n : ℕ). refusedOf n p) (sym z), d .1)
+    go false t h = rw (t) (refl, refl)

@@ -1,5 +1,5 @@
 -- The numbers 1 to 9 are given exactly when, in the order told. Assumes nothing.
-use mathlib.Core.Path.{_≡_, refl, sym, ap, subst}
+use mathlib.Core.Path.{_≡_, refl, sym, ap, _∙_, subst}
 use mathlib.Core.Logic.{_⊎_, inr, Iff·trans}
 use mathlib.Core.List.{List, [], _∷_}
 use mathlib.Core.Bool.{Bool, true, false, not, _&&_, _||_, true≢false}
@@ -30,7 +30,8 @@ use Rattle.private_rows.specs.Rows.{rowNumber, rowOf}
 use Rattle.private_rows.specs.declared.states.PrivateRecord.{PrivateRecord}
 use Rattle.private_rows.specs.declared.rows.Row.the-variants.{R1}
 use Rattle.private_rows.proofs.Meets.{same-row}
-use Rattle.private_call.specs.Step.{identifierTaken, stepLine, stepNumber}
+use Rattle.private_call.specs.Step.{identifierTaken, stepLine, stepOf}
+use Rattle.private_call.proofs.Steps.{number-told}
 use Rattle.private_call.proofs.NumberTable.{step-number}
 use Rattle.demands.specs.ExactlyWhen.{ExactlyWhen, IsDigit, Unended, Undigital, Unkind, Misfit, Unranged, lineTable, writeTable, answerTable}
 use Rattle.demands.specs.ExactlyWhen.{SettingOut, Unformed, FieldOut, ArgumentOut, IdentifierStored, StepRoomless, stepTable}
@@ -182,9 +183,9 @@ answer-exactly-when log out = table-exactly rows refl right
     right = (λ b. ltb-reflects (length out) (length (answerOf log)), tt)
 
 -- a step of the private call machine: 7, 9, then 5 or 8, then 6
-pub step-exactly-when : (s : Settings) (p : PrivateRecord) (i : Input) (out : List ℕ) → ExactlyWhen (stepNumber s p i out) (Unit {0}) (stepTable s p i out)
+pub step-exactly-when : (s : Settings) (p : PrivateRecord) (i : Input) (out : List ℕ) → ExactlyWhen (stepOf s p i out .number) (Unit {0}) (stepTable s p i out)
 step-exactly-when s p i out =
-    subst (λ (n : ℕ). ExactlyWhen n (Unit {0}) (stepTable s p i out)) (sym (step-number s p i out)) (table-exactly rows refl right)
+    subst (λ (n : ℕ). ExactlyWhen n (Unit {0}) (stepTable s p i out)) (sym (number-told s p i out ∙ step-number s p i out)) (table-exactly rows refl right)
   where
     rows : List Row
     rows =

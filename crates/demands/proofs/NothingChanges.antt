@@ -1,11 +1,8 @@
 -- A refusal changes nothing, for every public function that writes into a lent buffer. Assumes nothing.
-use mathlib.Core.Path.{_≡_, refl, sym, _∙_}
+use mathlib.Core.Path.{refl, sym, ap, _∙_}
 use mathlib.Core.List.{List}
-use mathlib.Core.Bool.{Bool, true, false, cond}
 use Prim.Native.Nat.{ℕ}
-use lib.ListN.{length}
-use lib.Dec.{eqb}
-use borrow.Author.Tests.{eq-eqb, ne-eqb, eqb-true}
+use borrow.Author.Tests.{eq-eqb, ne-eqb}
 use Rattle.frame.specs.Layout.{lineOf}
 use Rattle.frame.specs.Lent.{told, lentAfter}
 use Rattle.frame.specs.Writing.{writeNumber, writtenOf, bufferOf}
@@ -16,9 +13,10 @@ use Rattle.call.specs.Sending.{lineSent, sendNumber, sendTold, sendBuffer}
 use Rattle.call.specs.declared.Settings.{Settings}
 use Rattle.call.specs.declared.Input.{Input}
 use Rattle.call.specs.declared.Send.{Send}
-use Rattle.private_rows.specs.Rows.{rowOf}
 use Rattle.private_rows.specs.declared.states.PrivateRecord.{PrivateRecord}
-use Rattle.private_call.specs.Step.{doneOf, stepLine, stepNumber, refusedOf, movedOf, stepOf, stepBuffer}
+use Rattle.private_call.specs.Step.{stepLine, stepNumber, stepOf, stepBuffer}
+use Rattle.private_call.specs.declared.Stepped.{Stepped}
+use Rattle.private_call.proofs.Steps.{number-told, row-0-keeps}
 use Rattle.demands.specs.NothingChanges.{NothingChanges, StepNothingChanges}
 
 -- ---- a text written into a lent buffer
@@ -44,16 +42,6 @@ write-sent-nothing-changes sent media out = lent-nothing-changes (sendNumber sen
 
 -- ---- a step of the private call machine
 
--- the number that a step tells is its number, refused or not
-number-told : (s : Settings) (p : PrivateRecord) (i : Input) (out : List ℕ) → stepOf s p i out .number ≡ stepNumber s p i out
-unfolding stepOf
-number-told s p i out = go (eqb (stepNumber s p i out) 0) refl
-  where
-    go : (b : Bool) → eqb (stepNumber s p i out) 0 ≡ b
-        → cond b (movedOf (rowOf s p i) (doneOf s p i) (length (stepLine s p i))) (refusedOf (stepNumber s p i out) p) .number ≡ stepNumber s p i out
-    go true t = sym (eqb-true (stepNumber s p i out) 0 t)
-    go false t = refl
-
 -- a step
 pub step-nothing-changes : (s : Settings) (p : PrivateRecord) (i : Input) (out : List ℕ)
     → StepNothingChanges (stepLine s p i) p (stepOf s p i out) out (stepBuffer s p i out)
@@ -61,6 +49,9 @@ unfolding stepOf stepBuffer
 step-nothing-changes s p i out = (
   λ f.
       let b = ne-eqb (stepNumber s p i out) 0 (λ z. f (number-told s p i out ∙ z)) in
-      (rw b refl, rw b refl, rw b refl, rw b refl, rw b refl, rw b refl),
+      (rw b refl, rw b refl, rw b refl, rw b refl, (rw b refl, rw b refl)),
+  λ e.
+      let k = row-0-keeps s p i out e in
+      (ap (λ (r : Stepped). r .next) (k .0), e, ap (λ (r : Stepped). r .stop) (k .0), ap (λ (r : Stepped). r .start) (k .0), (ap (λ (r : Stepped). r .length) (k .0), k .1)),
   λ e. let b = eq-eqb (stepNumber s p i out) 0 (sym (number-told s p i out) ∙ e) in (rw b refl, rw b refl),
 )

@@ -12,29 +12,27 @@ use Rattle.private_call.specs.declared.Stepped.{Stepped}
 -- ---- a text written into a lent buffer
 
 -- a number was told: then length 0 is told too, and every byte of the buffer is what it was
-abbrev pub Kept : Written → List ℕ → List ℕ → Type 0
-Kept result lent after = (result .length ≡ 0) × (after ≡ lent)
+abbrev pub Kept : ℕ → List ℕ → List ℕ → Type 0
+Kept told lent after = (told ≡ 0) × (after ≡ lent)
 
 -- no number was told: then the text's length is, and the text stands at the front with the bytes behind it as they were
-abbrev pub Done : List ℕ → Written → List ℕ → List ℕ → Type 0
-Done text result lent after = (result .length ≡ length text) × (after ≡ atFront text lent)
+abbrev pub Done : List ℕ → ℕ → List ℕ → List ℕ → Type 0
+Done text told lent after = (told ≡ length text) × (after ≡ atFront text lent)
 
 -- writing a text into a lent buffer: a number that is not 0 changes nothing, and 0 writes the text and nothing else
 abbrev pub NothingChanges : List ℕ → Written → List ℕ → List ℕ → Type 0
-NothingChanges text result lent after = (((result .number ≡ 0) → ⊥) → Kept result lent after) × (result .number ≡ 0 → Done text result lent after)
+NothingChanges text result lent after =
+    (((result .number ≡ 0) → ⊥) → Kept (result .length) lent after) × (result .number ≡ 0 → Done text (result .length) lent after)
 
 -- ---- a step of the private call machine
 
--- a number was told: then the record is the stored one, there is no row, no timer to stop or to start and no line, and every byte of the buffer is what it was
+-- nothing was done: the record is the stored one, there is no row, no timer to stop or to start and no line, and every byte of the buffer is what it was
 abbrev pub StepKept : PrivateRecord → Stepped → List ℕ → List ℕ → Type 0
 StepKept stored result lent after =
-    (result .next ≡ stored) × (result .row ≡ 0) × (result .stop ≡ noTimer) × (result .start ≡ noTimer) × (result .length ≡ 0) × (after ≡ lent)
+    (result .next ≡ stored) × (result .row ≡ 0) × (result .stop ≡ noTimer) × (result .start ≡ noTimer) × Kept (result .length) lent after
 
--- no number was told: then the line's length is, and the line stands at the front with the bytes behind it as they were
-abbrev pub StepDone : List ℕ → Stepped → List ℕ → List ℕ → Type 0
-StepDone line result lent after = (result .length ≡ length line) × (after ≡ atFront line lent)
-
--- a step: a number that is not 0 changes nothing, and 0 writes the line and nothing else
+-- a step: a number that is not 0 changes nothing, nor does row 0; and number 0 writes the line and nothing else
 abbrev pub StepNothingChanges : List ℕ → PrivateRecord → Stepped → List ℕ → List ℕ → Type 0
 StepNothingChanges line stored result lent after =
-    (((result .number ≡ 0) → ⊥) → StepKept stored result lent after) × (result .number ≡ 0 → StepDone line result lent after)
+    (((result .number ≡ 0) → ⊥) → StepKept stored result lent after) × (result .row ≡ 0 → StepKept stored result lent after)
+    × (result .number ≡ 0 → Done line (result .length) lent after)

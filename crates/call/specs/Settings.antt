@@ -6,6 +6,10 @@ use Rattle.frame.specs.Range.{within, neverZero}
 use Rattle.call.specs.declared.Counters.{Counters}
 use Rattle.call.specs.declared.Settings.{Settings}
 
+-- where no counter counts
+abbrev pub noCounters : Counters
+noCounters = record { cfp1 = 0; cfp3 = 0; cfp4 = 0 }
+
 -- the limit of a counter: 1 to 16
 abbrev pub limitGood : ℕ → Bool
 limitGood limit = within 1 limit 16

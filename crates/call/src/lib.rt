@@ -148,11 +148,7 @@ pub struct Request {
 impl Request {
     // What an event without a setup request has in its place.
     pub const NONE: Request = Request {
-        parties: Parties {
-            identifier: 0,
-            caller: 0,
-            callee: 0,
-        },
+        parties: Parties::NONE,
         setup: Setup {
             commencement: 0,
             call_type: 0,

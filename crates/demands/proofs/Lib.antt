@@ -6,3 +6,4 @@ pub mod Reflects
 pub mod Tables
 pub mod ExactlyWhen
 pub mod RowPlays
+pub mod Strays

@@ -18,8 +18,9 @@ use Rattle.frame.specs.Writing.{writeNumber}
 use Rattle.frame.specs.declared.Media.{Media}
 use Rattle.frame.specs.declared.Message.{Message}
 use Rattle.frame.proofs.Laws.{and-split}
-use Rattle.call.specs.Settings.{settingsGood}
+use Rattle.call.specs.Settings.{noCounters, settingsGood}
 use Rattle.call.specs.declared.PrivateTimer.{PrivateTimer}
+use Rattle.call.specs.declared.PrivateAction.{PrivateAction}
 use Rattle.private_rows.specs.Phases.{has, runningOf, phaseIn}
 use Rattle.private_rows.specs.Formed.{wellFormed}
 use Rattle.private_rows.specs.Rows.{rowIn}
@@ -31,8 +32,9 @@ use Rattle.private_effects.specs.Carried.{startedOf, stoppedOf, runningAfter, c
 use Rattle.private_call.specs.Step.{stepOf}
 use Rattle.private_call.specs.Running.{expiry, userAccepts}
 use Rattle.private_call.proofs.MarkedSteps.{expiry-discarded, second-accept, last-expiry}
-use Rattle.demands.specs.MarkedCases.{spoilt, writes, expiryDiscarded, Holds, reading-holds, spoilt-holds, writing-holds, ringing, five, setup, table, AllHold}
-use Rattle.demands.specs.MarkedCases.{steps, cab, inCall, noVerdict, noCount, step-holds, last-expiry-holds, second-discarded-holds, expiry-discarded-holds}
+use Rattle.demands.specs.MarkedCases.{spoilt, writes, expiryDiscarded, Holds, reading-holds, spoilt-holds, writing-holds, ringing, setup, table, AllHold}
+use Rattle.demands.specs.Played.{crewWith, crew, ours, theirs, cfp1At, stored, does, expires}
+use Rattle.demands.specs.MarkedCases.{steps, step-holds, last-expiry-holds, second-discarded-holds, expiry-discarded-holds}
 
 -- a test that is computed at each number below n, and what it shows of each
 below : ℕ → (ℕ → Bool) → Bool
@@ -69,22 +71,22 @@ quiet {state} {timer} h =
     expiry-discarded s p timer media v out g w (ap (λ (x : Timers). has x timer) runs ∙ h (p .running)))
 
 -- case E, for a record
-step-E : Holds (steps cab (inCall Phase.P2Tfp1 (record { cfp1 = 1; cfp3 = 0; cfp4 = 0 }) 7 9) (expiry PrivateTimer.Tfp1 noMedia noVerdict) [] 0 3)
-unfolding cab inCall noVerdict noCount five stepOf settingsGood wellFormed rowIn carryOut startedOf stoppedOf runningAfter countersAfter inRange partiesGood setupGood
+step-E : Holds (steps (crewWith false 1) (stored Phase.P2Tfp1 (cfp1At 1) ours) (expires PrivateTimer.Tfp1) [] 0 3)
+unfolding stepOf settingsGood wellFormed rowIn carryOut startedOf stoppedOf runningAfter countersAfter inRange partiesGood setupGood
 step-E = step-holds refl refl
 
 -- case F, for a record
-step-F : Holds (steps cab (inCall Phase.P5Tfp2 noCount 9 7) (userAccepts noMedia noVerdict) (replicate 31 0) 0 23)
-unfolding cab inCall noVerdict noCount five stepOf settingsGood wellFormed rowIn carryOut startedOf stoppedOf runningAfter countersAfter inRange partiesGood setupGood writeNumber lineOf frameInHex allInHex inHex
+step-F : Holds (steps crew (stored Phase.P5Tfp2 noCounters theirs) (does PrivateAction.Accept) (replicate 31 0) 0 23)
+unfolding stepOf settingsGood wellFormed rowIn carryOut startedOf stoppedOf runningAfter countersAfter inRange partiesGood setupGood writeNumber lineOf frameInHex allInHex inHex
 step-F = step-holds refl refl
 
 -- case G, for a record
-step-G : Holds (steps cab (inCall Phase.P4 noCount 7 9) (expiry PrivateTimer.Tfp7 noMedia noVerdict) [] 0 0)
-unfolding cab inCall noVerdict noCount five stepOf settingsGood wellFormed rowIn carryOut startedOf stoppedOf runningAfter countersAfter inRange partiesGood setupGood
+step-G : Holds (steps crew (stored Phase.P4 noCounters ours) (expires PrivateTimer.Tfp7) [] 0 0)
+unfolding stepOf settingsGood wellFormed rowIn carryOut startedOf stoppedOf runningAfter countersAfter inRange partiesGood setupGood
 step-G = step-holds refl refl
 
 -- every marked case holds
 pub marked-cases : AllHold table
-unfolding below AllHold table ringing five setup readLine refusalOf messageAt mediaAt numbersAt numberAt digitsOf allDigits inRange partiesGood setupGood groupCallGood acceptanceGood writeNumber lineOf frameInHex allInHex inHex
+unfolding below AllHold table ringing setup readLine refusalOf messageAt mediaAt numbersAt numberAt digitsOf allDigits inRange partiesGood setupGood groupCallGood acceptanceGood writeNumber lineOf frameInHex allInHex inHex
 marked-cases =
     (reading-holds refl, (everywhere refl, (reading-holds refl, (reading-holds refl, (last-expiry-holds last-expiry, (step-E, (second-discarded-holds second-accept, (step-F, (quiet (λ w. refl), (step-G, (by-length refl, (by-length refl, (reading-holds refl, (by-length refl, (reading-holds refl, (by-length refl, tt))))))))))))))))

@@ -1,4 +1,4 @@
--- Every private row, played, comes out as told; so does what meets no row, and what is refused. Assumes nothing.
+-- Every private row, played, comes out as told, and so does a run. Assumes nothing.
 use mathlib.Core.Path.{refl}
 use Rattle.frame.specs.Digits.{inHex, allInHex}
 use Rattle.frame.specs.Frame.{partiesGood, setupGood, groupCallGood, acceptanceGood, inRange}
@@ -9,25 +9,13 @@ use Rattle.private_rows.specs.Formed.{wellFormed}
 use Rattle.private_rows.specs.Rows.{rowIn}
 use Rattle.private_effects.specs.Carried.{startedOf, stoppedOf, runningAfter, countersAfter, carryOut}
 use Rattle.private_call.specs.Step.{stepOf, stepBuffer}
-use Rattle.demands.specs.RowPlays.{plays, AllComeOut, strays, AllStray, refusals, AllRefused, RunComesOut}
+use Rattle.demands.specs.RowPlays.{plays, AllComeOut, RunComesOut}
 
 -- each by computing the step
 pub plays-come-out : AllComeOut plays
 unfolding plays stepOf stepBuffer settingsGood wellFormed rowIn carryOut startedOf stoppedOf runningAfter countersAfter inRange partiesGood setupGood writeNumber digitsOf lineOf frameInHex allInHex inHex
 plays-come-out =
     ((refl, refl), ((refl, refl), ((refl, refl), ((refl, refl), ((refl, refl), ((refl, refl), ((refl, refl), ((refl, refl), ((refl, refl), ((refl, refl), ((refl, refl), ((refl, refl), ((refl, refl), ((refl, refl), ((refl, refl), ((refl, refl), ((refl, refl), ((refl, refl), ((refl, refl), ((refl, refl), ((refl, refl), ((refl, refl), ((refl, refl), ((refl, refl), ((refl, refl), ((refl, refl), ((refl, refl), ((refl, refl), ((refl, refl), ((refl, refl), ((refl, refl), ((refl, refl), ((refl, refl), ((refl, refl), ((refl, refl), ((refl, refl), ((refl, refl), ((refl, refl), ((refl, refl), tt)))))))))))))))))))))))))))))))))))))))
-
--- what meets no row is discarded
-pub strays-discarded : AllStray strays
-unfolding strays stepOf stepBuffer settingsGood wellFormed rowIn carryOut startedOf stoppedOf runningAfter countersAfter inRange partiesGood setupGood writeNumber digitsOf lineOf frameInHex allInHex inHex groupCallGood acceptanceGood
-strays-discarded =
-    ((refl, refl), ((refl, refl), ((refl, refl), ((refl, refl), ((refl, refl), ((refl, refl), ((refl, refl), ((refl, refl), ((refl, refl), ((refl, refl), ((refl, refl), ((refl, refl), ((refl, refl), tt)))))))))))))
-
--- what is refused is refused so
-pub refusals-come-out : AllRefused refusals
-unfolding refusals stepOf stepBuffer settingsGood wellFormed rowIn carryOut startedOf stoppedOf runningAfter countersAfter inRange partiesGood setupGood writeNumber digitsOf lineOf frameInHex allInHex inHex groupCallGood acceptanceGood
-refusals-come-out =
-    ((refl, refl), ((refl, refl), ((refl, refl), ((refl, refl), ((refl, refl), ((refl, refl), ((refl, refl), ((refl, refl), tt))))))))
 
 -- the run, step by step
 pub run-comes-out : RunComesOut

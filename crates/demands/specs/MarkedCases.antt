@@ -12,11 +12,12 @@ use Rattle.frame.specs.declared.Media.{Media}
 use Rattle.frame.specs.declared.Message.{Message}
 use Rattle.frame.specs.declared.Message.the-variants.{SetupRequest, Ringing}
 use Rattle.frame.specs.declared.Reading.{Reading}
-use Rattle.call.specs.Settings.{settingsGood}
+use Rattle.call.specs.Settings.{noCounters, settingsGood}
 use Rattle.call.specs.declared.Counters.{Counters}
 use Rattle.call.specs.declared.Settings.{Settings}
 use Rattle.call.specs.declared.Verdicts.{Verdicts}
 use Rattle.call.specs.declared.PrivateTimer.{PrivateTimer}
+use Rattle.call.specs.declared.PrivateAction.{PrivateAction}
 use Rattle.call.specs.declared.Input.{Input}
 use Rattle.private_rows.specs.Phases.{stateOf, runningOf}
 use Rattle.private_rows.specs.Formed.{wellFormed}
@@ -26,6 +27,7 @@ use Rattle.private_rows.specs.declared.states.PrivateRecord.{PrivateRecord}
 use Rattle.private_call.specs.Step.{discarded, stepOf, stepBuffer}
 use Rattle.private_call.specs.Running.{expiry, userAccepts}
 use Rattle.demands.specs.Text.{bytes}
+use Rattle.demands.specs.Played.{crewWith, crew, five, ours, theirs, cfp1At, stored, does, expires}
 
 -- an input is discarded: number 0, row 0, the record as it was, no timer, length 0, and every byte of the buffer as lent
 abbrev pub IsDiscarded : Settings → PrivateRecord → Input → List ℕ → Type 0
@@ -73,38 +75,11 @@ pub data Holds : Case → Type 0 where
 unfoldable pub ringing : Message
 ringing = Ringing (record { identifier = 0x1234; caller = 7; callee = 9 })
 
--- media 5
-unfoldable pub five : Media
-five = record { number = 5 }
-
 -- a setup request of that call, automatic, of type 4, by its PCK-ID
 unfoldable pub setup : ℕ → Message
 setup k =
     SetupRequest (record { identifier = 0x1234; caller = 7; callee = 9 })
     (record { commencement = 0; «call_type» = 4; «pck_id» = k })
-
--- user 7 of group 3, every limit 1
-unfoldable pub cab : Settings
-cab =
-    record { «own_user» = 7; «own_group» = 3; restrict = false; acknowledgement = false; limits = record { cfp1 = 1; cfp3 = 1; cfp4 = 1 } }
-
--- call 1234 (hexadecimal), automatic, media 5, no security, in a phase of the table with these counters, by its users
-unfoldable pub inCall : Phase → Counters → ℕ → ℕ → PrivateRecord
-inCall f counters caller callee =
-    record {
-      state = stateOf f;
-      running = runningOf f;
-      counters = counters;
-      call = record { parties = record { identifier = 0x1234; caller = caller; callee = callee }; commencement = 0; media = five; «pck_id» = 0 };
-    }
-
--- no verdict is given
-unfoldable pub noVerdict : Verdicts
-noVerdict = record { media = false; signature = false }
-
--- where no counter counts
-unfoldable pub noCount : Counters
-noCount = record { cfp1 = 0; cfp3 = 0; cfp4 = 0 }
 
 -- the cases by their letters; E, F and G for every record, and each for one, so that there is one
 unfoldable pub table : List (String × Case)
@@ -114,11 +89,11 @@ table =
     ∷ ("C", reads (bytes "\n") (refusal 3))
     ∷ ("D", reads (bytes "0a12340000000700000009\n") (refusal 3))
     ∷ ("E", lastExpiry 1 1 3)
-    ∷ ("E", steps cab (inCall Phase.P2Tfp1 (record { cfp1 = 1; cfp3 = 0; cfp4 = 0 }) 7 9) (expiry PrivateTimer.Tfp1 noMedia noVerdict) [] 0 3)
+    ∷ ("E", steps (crewWith false 1) (stored Phase.P2Tfp1 (cfp1At 1) ours) (expires PrivateTimer.Tfp1) [] 0 3)
     ∷ ("F", secondDiscarded 23)
-    ∷ ("F", steps cab (inCall Phase.P5Tfp2 noCount 9 7) (userAccepts noMedia noVerdict) (replicate 31 0) 0 23)
+    ∷ ("F", steps crew (stored Phase.P5Tfp2 noCounters theirs) (does PrivateAction.Accept) (replicate 31 0) 0 23)
     ∷ ("G", expiryDiscarded State.P4 PrivateTimer.Tfp7)
-    ∷ ("G", steps cab (inCall Phase.P4 noCount 7 9) (expiry PrivateTimer.Tfp7 noMedia noVerdict) [] 0 0)
+    ∷ ("G", steps crew (stored Phase.P4 noCounters ours) (expires PrivateTimer.Tfp7) [] 0 0)
     ∷ ("K", writes ringing noMedia 22 6)
     ∷ ("K", writes ringing noMedia 23 0)
     ∷ ("L", reads (bytes "011234000000070000000900040000000530000000\n") (reading (setup 0x3000_0000) five))

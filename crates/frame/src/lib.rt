@@ -29,6 +29,15 @@ pub struct Parties {
     pub callee: u32,
 }
 
+impl Parties {
+    // Where there is no call.
+    pub const NONE: Parties = Parties {
+        identifier: 0,
+        caller: 0,
+        callee: 0,
+    };
+}
+
 // What a setup request says of the call besides.
 pub struct Setup {
     pub commencement: u8,

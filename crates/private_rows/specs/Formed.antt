@@ -5,6 +5,7 @@ use lib.Dec.{eqb}
 use Rattle.frame.specs.Range.{within}
 use Rattle.frame.specs.Media.{noMedia, mediaNone}
 use Rattle.frame.specs.Frame.{inRange}
+use Rattle.call.specs.Settings.{noCounters}
 use Rattle.call.specs.Request.{noParties, asMessage, privateRequest}
 use Rattle.call.specs.declared.Counters.{Counters}
 use Rattle.call.specs.declared.Settings.{Settings}
@@ -21,7 +22,7 @@ noCall = record { parties = noParties; commencement = 0; media = noMedia; «pck_
 
 -- the cleared record
 abbrev pub clearedRecord : PrivateRecord
-clearedRecord = record { state = State.P0; running = noTimer; counters = record { cfp1 = 0; cfp3 = 0; cfp4 = 0 }; call = noCall }
+clearedRecord = record { state = State.P0; running = noTimer; counters = noCounters; call = noCall }
 
 -- ---- the running timers
 

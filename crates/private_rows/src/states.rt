@@ -109,11 +109,7 @@ pub struct PrivateCall {
 impl PrivateCall {
     // No call.
     pub const NONE: PrivateCall = PrivateCall {
-        parties: Parties {
-            identifier: 0,
-            caller: 0,
-            callee: 0,
-        },
+        parties: Parties::NONE,
         commencement: 0,
         media: Media::NONE,
         pck_id: 0,

@@ -1,0 +1,100 @@
+-- What meets no row, and what is refused: steps that change nothing. Assumes nothing.
+use mathlib.Core.Path.{_≡_}
+use mathlib.Core.List.{List, [], _∷_}
+use mathlib.Core.Bool.{Bool, true, false}
+use Prim.Native.Nat.{ℕ}
+use Prim.Native.String.{String}
+use lib.ListN.{length, replicate}
+use Rattle.frame.specs.Range.{privateType}
+use Rattle.frame.specs.Lent.{atFront}
+use Rattle.frame.specs.Layout.{longestLine}
+use Rattle.frame.specs.declared.Media.{Media}
+use Rattle.frame.specs.declared.Message.{Message}
+use Rattle.frame.specs.declared.Message.the-variants.{SetupRequest, Ringing, Accept, Reject, Release, ReleaseAck, AcceptAck, Announcement, GroupAccept}
+use Rattle.call.specs.Settings.{noCounters}
+use Rattle.call.specs.declared.Counters.{Counters}
+use Rattle.call.specs.declared.Settings.{Settings}
+use Rattle.call.specs.declared.PrivateTimer.{PrivateTimer}
+use Rattle.call.specs.declared.Timer.{Timer}
+use Rattle.call.specs.declared.GroupTimer.{GroupTimer}
+use Rattle.call.specs.declared.PrivateAction.{PrivateAction}
+use Rattle.call.specs.declared.GroupAction.{GroupAction}
+use Rattle.call.specs.declared.Action.{Action}
+use Rattle.call.specs.declared.Event.{Event}
+use Rattle.call.specs.declared.Input.{Input}
+use Rattle.private_rows.specs.Phases.{noTimer, tfp1, tfp2, tfp3, tfp4, tfp5, tfp7, stateOf, runningOf}
+use Rattle.private_rows.specs.Formed.{clearedRecord}
+use Rattle.private_rows.specs.declared.states.Timers.{Timers}
+use Rattle.private_rows.specs.declared.states.Phase.{Phase}
+use Rattle.private_rows.specs.declared.states.PrivateCall.{PrivateCall}
+use Rattle.private_rows.specs.declared.states.PrivateRecord.{PrivateRecord}
+use Rattle.private_call.specs.Step.{refusedOf, discarded, stepOf, stepBuffer}
+use Rattle.private_call.specs.Running.{sentPrivate}
+use Rattle.demands.specs.Played.{crewWith, crew, restrictedCrew, five, six, secure, outgoing, ours, answered, theirs, taken, cfp1At, cfp3At, cfp4At, stored, input, hears, hearsInVain, hearsSigned, request, does, acceptsSigned, starts, expires}
+
+-- ---- what meets no row
+
+-- a good announcement of group 3
+abbrev pub announced : Message
+announced =
+    Announcement
+    (record {
+      identifier = 16;
+      group = 3;
+      «call_type» = 2;
+      refresh = 30;
+      originator = 7;
+      start = 1000;
+      «last_change» = 1000;
+      «last_changer» = 7;
+    }) 1
+
+-- a request from one user to another
+abbrev pub requestBetween : ℕ → ℕ → Message
+requestBetween caller callee =
+    SetupRequest (record { identifier = 0x1235; caller = caller; callee = callee }) (record { commencement = 0; «call_type» = privateType; «pck_id» = 0 })
+
+-- what is stored, and what happens to no avail
+unfoldable pub strays : List (PrivateRecord × Input)
+strays =
+    (stored Phase.P2Tfp1 (cfp1At 1) ours, input (Event.Action (Action.Group GroupAction.Leave)) true true)
+    ∷ (stored Phase.P4 noCounters ours, input (Event.Expiry (Timer.Group GroupTimer.Tfg2)) true true)
+    ∷ (stored Phase.P4 noCounters ours, hears announced)
+    ∷ (clearedRecord, hears (GroupAccept (record { identifier = 16; sender = 9; «call_type» = 2; group = 3 })))
+    ∷ (clearedRecord, hears (requestBetween 9 8))
+    ∷ (clearedRecord, hears (requestBetween 7 7))
+    ∷ (stored Phase.P2Tfp2 noCounters ours, hearsInVain (Accept (ours .parties)))
+    ∷ (stored Phase.P2Tfp2 noCounters ours, hears (Ringing (ours .parties)))
+    ∷ (stored Phase.P5Tfp2 noCounters theirs, hears (AcceptAck (theirs .parties)))
+    ∷ (stored Phase.P4 noCounters theirs, hears (Accept (theirs .parties)))
+    ∷ (stored Phase.P5Tfp4 (cfp4At 1) (taken 0 0), hears (request 0 0))
+    ∷ (stored Phase.P0 noCounters (taken 0 secure), hears (request 0 secure))
+    ∷ (stored Phase.P4 noCounters ours, hears (Release (taken 0 0 .parties)))
+    ∷ []
+
+-- each is discarded, with no buffer at all
+abbrev pub AllStray : List (PrivateRecord × Input) → Type 0
+AllStray [] = Unit {0}
+AllStray (x ∷ xs) = ((stepOf crew (x .0) (x .1) [] ≡ discarded (x .0)) × (stepBuffer crew (x .0) (x .1) [] ≡ [])) × AllStray xs
+
+-- ---- what is refused
+
+-- number, settings, record, input and the length of the buffer
+unfoldable pub refusals : List (ℕ × Settings × PrivateRecord × Input × ℕ)
+refusals =
+    (5, crew, stored Phase.P4 noCounters ours, hears (Reject (theirs .parties) 5), 63)
+    ∷ (5, crew, clearedRecord, hears (GroupAccept (record { identifier = 0; sender = 9; «call_type» = 2; group = 3 })), 0)
+    ∷ (6, crew, stored Phase.P2Tfp1 (cfp1At 1) ours, expires PrivateTimer.Tfp1, 42)
+    ∷ (7, crewWith false 0, stored Phase.P2Tfp1 (cfp1At 17) ours, starts 0x1234, 0)
+    ∷ (8, crew, stored Phase.P4 noCounters ours, starts 0, 0)
+    ∷ (8, crew, stored Phase.P1 noCounters ours, starts 0x1234, 0)
+    ∷ (9, crew, stored Phase.P2Tfp1 (cfp1At 4) ours, starts 0, 0)
+    ∷ (9, crew, stored Phase.P2Tfp1 (cfp1At 1) theirs, starts 0x1235, 63)
+    ∷ []
+
+-- each is refused so
+abbrev pub AllRefused : List (ℕ × Settings × PrivateRecord × Input × ℕ) → Type 0
+AllRefused [] = Unit {0}
+AllRefused (x ∷ xs) =
+    ((stepOf (x .1) (x .2) (x .3) (replicate (x .4) 0) ≡ refusedOf (x .0) (x .2))
+    × (stepBuffer (x .1) (x .2) (x .3) (replicate (x .4) 0) ≡ replicate (x .4) 0)) × AllRefused xs

@@ -7,12 +7,16 @@ cd "$(dirname "${BASH_SOURCE[0]}")/../.." || exit 2
 # The crates of crates.txt.
 listed() { sed 's/#.*//' crates.txt | sed -n 's/^[[:space:]]*\([a-z0-9_]*\):.*/\1/p'; }
 
-# CRATE::NAME for each public function of a library; methods by their type are not told apart.
+# CRATE::NAME or CRATE::MODULE::NAME for each public function of a library; methods by their type are not told apart.
 public_functions() {
-    local crate
+    local crate file path
     for crate in $(listed); do
         [ -f "crates/$crate/src/lib.rt" ] || continue
-        cat "crates/$crate/src"/*.rt | sed -n "s/^[[:space:]]*pub \(extern \"C\" \)\{0,1\}fn \([a-z0-9_]*\).*/$crate::\2/p"
+        for file in "crates/$crate/src"/*.rt; do
+            path=$crate
+            [ "$(basename "$file" .rt)" = lib ] || path=$crate::$(basename "$file" .rt)
+            sed -n "s/^[[:space:]]*pub \(extern \"C\" \)\{0,1\}fn \([a-z0-9_]*\).*/$path::\2/p" "$file"
+        done
     done
 }
 

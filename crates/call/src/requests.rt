@@ -1,6 +1,7 @@
 // The setup request that an event brings.
 ghost use mathlib.Core.Path.{_≡_};
-ghost use Rattle.call.specs.Request.{privateRequest, startRequest, privateActionRequest, actionRequest, messageRequest};
+ghost use Rattle.call.specs.Request.{privateRequest, startRequest, privateActionRequest};
+ghost use Rattle.call.specs.Request.{actionRequest, messageRequest};
 use crate::Action;
 use crate::PrivateAction;
 use crate::PrivateStart;

@@ -11,6 +11,7 @@ use Rattle.log.proofs.first_line_length.Reads as first-line-length
 use Rattle.log.proofs.answer_log.Reads as answer-log
 use Rattle.call.proofs.number_before_row.Reads as number-before-row
 use Rattle.call.proofs.request_of.Reads as request-of
+use Rattle.call.proofs.requests.private_request.Reads as private-request
 use Rattle.call.proofs.write_sent.Reads as write-sent
 use Rattle.private_rows.proofs.well_formed.Reads as well-formed
 use Rattle.private_rows.proofs.row_of.Reads as row-of
@@ -58,6 +59,10 @@ number-before-row-one κs a r q s t x y = same x y
 -- the setup request that an event brings
 pub request-of-one : (κs : Lifetimes.Lfts 0) (a : _) (r q : _) (s t : _) → request-of.Learnt κs a r s → request-of.Learnt κs a q t → r ≡ q
 request-of-one κs a r q s t x y = same x y
+
+-- the setup request of a private call
+pub private-request-one : (κs : Lifetimes.Lfts 0) (a : _) (r q : _) (s t : _) → private-request.Learnt κs a r s → private-request.Learnt κs a q t → r ≡ q
+private-request-one κs a r q s t x y = same x y
 
 -- the number and length of what a step sends, and the buffer
 pub write-sent-one : (κs : Lifetimes.Lfts 1) (a : _) (r q : _) (s t : _) → write-sent.Learnt κs a r s → write-sent.Learnt κs a q t → (r ≡ q) × (s .1 .1 .0 .now ≡ t .1 .1 .0 .now)

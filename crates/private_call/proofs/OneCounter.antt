@@ -1,4 +1,4 @@
--- What CFP1, CFP3 and CFP4 share, over the counter: with the limit n and no reply the message is sent n times. Assumes nothing.
+-- One expiry of the timer of a counter, be it CFP1, CFP3 or CFP4: the message once more, or P1. Assumes nothing.
 use Prim.Native.Nat.{ℕ, suc, _<_, _≤_}
 use mathlib.Core.Path.{_≡_, refl, sym, ap, _∙_}
 use mathlib.Core.List.{List, [], _∷_}

@@ -17,8 +17,8 @@ use private_rows::states::PrivateRecord;
 use private_rows::states::Timers;
 use private_rows::well_formed;
 
-// A step's answer: the number that refuses, or 0; the row, or 0; the next record; the timers to stop, then those to
-// start; the length of the line at the front of the buffer, or 0.
+// What a step answers. A number other than 0 refuses; row 0 is none; `stop` comes ahead of `start`; the line of this
+// length stands at the front of the buffer.
 pub struct Stepped {
     pub number: u8,
     pub row: u8,

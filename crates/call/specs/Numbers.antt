@@ -1,4 +1,4 @@
--- The numbers that a step gives before it looks for a row, in every state: 7, 9, then 5 or 8. Assumes nothing.
+-- The numbers that come ahead of any row, whatever the state: 7, 9, and 5 or 8. Assumes nothing.
 use Prim.Native.Nat.{ℕ}
 use mathlib.Core.List.{List, [], _∷_}
 use mathlib.Core.Bool.{Bool, true, not, _&&_}
@@ -64,7 +64,7 @@ argumentsGood s (Event.Action a) media = actionGood s a media
 argumentsGood s (Event.Expiry t) media = true
 argumentsGood s (Event.Message m) media = true
 
--- the tests of a step before it looks for a row, in their order: a setting, the record, a field of a message, an argument of an action
+-- the tests ahead of any row, in their order: a setting, the record, a field of a message, an argument of an action
 abbrev pub testsBeforeRow : Settings → Bool → Input → List (ℕ × Bool)
 testsBeforeRow s wellFormed i =
     (7, not (settingsGood s)) ∷ (9, not wellFormed) ∷ (5, not (heardGood (i .event) (i .media)))

@@ -1,4 +1,4 @@
--- One answer: any two results that a public contract allows are equal, and so is what was lent, at exit. `Learnt` is the contract's own reading:
+-- A public contract leaves no choice: two results that it allows are one, and so is what was lent, at exit. `Learnt` is the contract's own reading:
 -- what a caller learns, for the arguments, of the result and of the parameters at exit. Assumes nothing.
 use mathlib.Core.Path.{_≡_, sym, _∙_}
 use contract.Lifetimes as Lifetimes

@@ -25,7 +25,7 @@ stopped-one changed asked was started out PrivateTimer.Tfp4 = refl
 stopped-one changed asked was started out PrivateTimer.Tfp5 = refl
 stopped-one changed asked was started out PrivateTimer.Tfp7 = refl
 
--- a state change stops a running timer that is not started again and did not just run out
+-- leaving a state stops what runs, is not started anew and did not run out just now
 stops : (changed asked was started out : Bool) → changed ≡ true → was ≡ true → started ≡ false → out ≡ false
     → (was && ((changed || asked) && (not started && not out))) ≡ true
 stops changed asked was started out a b c d = rw (a, b, c, d) refl
@@ -45,7 +45,7 @@ module _ (s : Settings) (p : PrivateRecord) (i : Input) (row : Row) where
   abbrev effect : Effect
   effect = effectOf row (p .state)
 
-  -- a state change stops every running timer that is not started again
+  -- leaving a state stops each timer that runs there, if the row does not start it anew
   pub change-stops : (t : PrivateTimer) → changes (p .state) (carryOut s p i row .next .state) ≡ true → has (p .running) t ≡ true
       → has (carryOut s p i row .start) t ≡ false → has (ranOut (i .event)) t ≡ false → has (carryOut s p i row .stop) t ≡ true
   unfolding carryOut
@@ -53,21 +53,21 @@ module _ (s : Settings) (p : PrivateRecord) (i : Input) (row : Row) where
       stopped-one (changes (p .state) (effect .to)) (effect .stop) (p .running) (startedBy (p .state) effect) (ranOut (i .event)) t
       ∙ stops (changes (p .state) (effect .to)) (has (effect .stop) t) (has (p .running) t) (has (startedBy (p .state) effect) t) (has (ranOut (i .event)) t) a b c d
 
-  -- the timer that just ran out is never stopped
+  -- no step stops the timer whose expiry it is about
   pub ran-out-never-stopped : (t : PrivateTimer) → has (ranOut (i .event)) t ≡ true → has (carryOut s p i row .stop) t ≡ false
   unfolding carryOut
   ran-out-never-stopped t e =
       stopped-one (changes (p .state) (effect .to)) (effect .stop) (p .running) (startedBy (p .state) effect) (ranOut (i .event)) t
       ∙ spares (changes (p .state) (effect .to)) (has (effect .stop) t) (has (p .running) t) (has (startedBy (p .state) effect) t) (has (ranOut (i .event)) t) e
 
-  -- a counter whose timer does not run is 0
+  -- a counter without a running timer is 0
   pub counter-rests : (k : Counter) → has (carryOut s p i row .next .running) (timerOf k) ≡ false → countIn k (carryOut s p i row .next .counters) ≡ 0
   unfolding carryOut countersAfter
   counter-rests cfp1 e = rw e
   counter-rests cfp3 e = rw e
   counter-rests cfp4 e = rw e
 
-  -- entering P1 starts TFP7
+  -- whoever comes to P1 starts TFP7
   pub entering-starts : changes (p .state) (carryOut s p i row .next .state) ≡ true → eqb (stateNumber (carryOut s p i row .next .state)) 1 ≡ true
       → has (carryOut s p i row .start) PrivateTimer.Tfp7 ≡ true
   unfolding carryOut startedOf

@@ -99,7 +99,7 @@ expiry-discarded s p t media v out g w h =
 other-row : (f : Phase) (x : Facts) → rowIn f Cause.Other x ≡ Discard
 other-row f x = sym (found-is-met f Cause.Other x)
 
--- a group action, a group timer, kinds 08 and 09, a setup request that does not count: discarded, unless a field is refused
+-- whatever is the group machine's, and a setup request that does not count: discarded, unless a field is refused
 pub other-discarded : (s : Settings) (p : PrivateRecord) (i : Input) (out : List ℕ) → Taken s p i → causeOf s (i .event) ≡ Cause.Other
     → (stepOf s p i out ≡ discarded p) × (stepBuffer s p i out ≡ out)
 other-discarded s p i out t c =

@@ -1,4 +1,4 @@
-// The private call machine: one step, from settings, record, input and a lent buffer.
+// The private call machine: one step.
 ghost use mathlib.Core.Path.{_≡_};
 ghost use Rattle.private_call.specs.Step.{identifierTaken, refusedOf, movedOf, stepOf, stepBuffer};
 use call::Event;

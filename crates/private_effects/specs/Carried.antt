@@ -68,7 +68,7 @@ startedOf state to start =
       tfp7 = start .tfp7 || (changes state to && eqb (stateNumber to) 1);
     }
 
--- a state change stops every running timer that is not started again; the one that just ran out is never stopped; a row may ask for a stop
+-- leaving a state stops what runs there, save a timer that the row starts anew and the one that ran out just now; a row may ask for a stop besides
 unfoldable pub stoppedOf : Bool → Timers → Timers → Timers → Timers → Timers
 stoppedOf changed asked was started out =
     setOf (λ t. has was t && ((changed || has asked t) && (not (has started t) && not (has out t))))
@@ -157,7 +157,7 @@ nextBy s p out r media x =
       call = heldOf (x .hold) (p .call) r media;
     }
 
--- record, timers to stop, timers to start, message
+-- the next record, what stops, what starts, what is sent
 abbrev pub carriedBy : Settings → PrivateRecord → Timers → Request → Media → Effect → Carried
 carriedBy s p out r media x =
     record {

@@ -59,11 +59,11 @@ callRequest c = privateRequest (c .parties) (c .commencement) (c .«pck_id»)
 abbrev pub fieldsGood : PrivateCall → Bool
 fieldsGood c = inRange (asMessage (callRequest c)) (c .media)
 
--- exactly one of caller and callee is own
+-- own is the caller or the callee, and not both
 abbrev pub oneOwn : Bool → Bool → Bool
 oneOwn caller callee = (caller && not callee) || (not caller && callee)
 
--- the caller is own in P2, and the callee in P5; elsewhere either
+-- in P2 own is the caller, in P5 the callee, elsewhere either
 abbrev pub roleGood : State → Bool → Bool → Bool
 roleGood State.P0 caller callee = true
 roleGood State.P1 caller callee = true

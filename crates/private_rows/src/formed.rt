@@ -56,7 +56,7 @@ fn no_call(call: PrivateCall) -> bool
                 & ((call.commencement == 0) & (media_none(media) & (call.pck_id == 0)))))
 }
 
-// Exactly one of caller and callee is own.
+// Own is the caller or the callee, and not both.
 fn one_own(caller: bool, callee: bool) -> bool
     ensures { λ r. ⌜ r ≡ oneOwn caller callee ⌝ }
 {
@@ -77,7 +77,7 @@ fn start_stop(state: State) -> bool
     }
 }
 
-// The caller is own in P2, and the callee in P5.
+// In P2 own is the caller, in P5 the callee.
 fn role_good(state: State, caller: bool, callee: bool) -> bool
     ensures { λ r. ⌜ r ≡ roleGood state caller callee ⌝ }
 {

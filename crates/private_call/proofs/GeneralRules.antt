@@ -1,17 +1,24 @@
 -- The rules that hold for all rows, in the order in which they are told. Assumes nothing.
-use mathlib.Core.Path.{_≡_, refl, _∙_}
+use Prim.Native.Nat.{ℕ}
+use mathlib.Core.Path.{_≡_, refl, sym, _∙_, subst}
+use mathlib.Core.List.{List}
 use mathlib.Core.Bool.{Bool, true, false, not, _&&_, _||_}
+use lib.ListN.{length}
 use lib.Dec.{eqb}
+use borrow.Author.Tests.{eq-eqb}
 use Rattle.call.specs.declared.Settings.{Settings}
 use Rattle.call.specs.declared.PrivateTimer.{PrivateTimer}
 use Rattle.call.specs.declared.Input.{Input}
 use Rattle.private_rows.specs.Phases.{stateNumber, has}
 use Rattle.private_rows.specs.declared.states.Timers.{Timers}
 use Rattle.private_rows.specs.declared.states.PrivateRecord.{PrivateRecord}
+use Rattle.private_rows.specs.Rows.{rowOf}
 use Rattle.private_rows.specs.declared.rows.Row.{Row}
 use Rattle.private_effects.specs.Effects.{effectOf}
 use Rattle.private_effects.specs.Carried.{ranOut, changes, startedOf, stoppedOf, countersAfter, startedBy, carryOut}
 use Rattle.private_effects.specs.declared.effects.Effect.{Effect}
+use Rattle.private_call.specs.Step.{doneOf, stepLine, stepNumber, movedOf, stepOf}
+use Rattle.private_call.specs.declared.Stepped.{Stepped}
 use Rattle.private_call.specs.NoReply.{Counter, cfp1, cfp3, cfp4, countIn, timerOf}
 
 -- whether a timer is stopped
@@ -76,3 +83,36 @@ module _ (s : Settings) (p : PrivateRecord) (i : Input) (row : Row) where
       either : (c : Bool) → (c || true) ≡ true
       either true = refl
       either false = refl
+
+-- ---- the same of the answer of a step that is not refused
+
+module _ (s : Settings) (p : PrivateRecord) (i : Input) (out : List ℕ) (e : stepNumber s p i out ≡ 0) where
+  -- its answer is what is carried out
+  pub step-done : stepOf s p i out ≡ movedOf (rowOf s p i) (doneOf s p i) (length (stepLine s p i))
+  unfolding stepOf
+  step-done = rw (eq-eqb (stepNumber s p i out) 0 e) refl
+
+  -- leaving a state stops each timer that runs there, if the row does not start it anew
+  pub step-change-stops : (t : PrivateTimer) → changes (p .state) (stepOf s p i out .next .state) ≡ true → has (p .running) t ≡ true
+      → has (stepOf s p i out .start) t ≡ false → has (ranOut (i .event)) t ≡ false → has (stepOf s p i out .stop) t ≡ true
+  step-change-stops t =
+      subst (λ (r : Stepped). changes (p .state) (r .next .state) ≡ true → has (p .running) t ≡ true → has (r .start) t ≡ false
+      → has (ranOut (i .event)) t ≡ false → has (r .stop) t ≡ true) (sym step-done) (change-stops s p i (rowOf s p i) t)
+
+  -- no step stops the timer whose expiry it is about
+  pub step-spares-ran-out : (t : PrivateTimer) → has (ranOut (i .event)) t ≡ true → has (stepOf s p i out .stop) t ≡ false
+  step-spares-ran-out t =
+      subst (λ (r : Stepped). has (ranOut (i .event)) t ≡ true → has (r .stop) t ≡ false) (sym step-done) (ran-out-never-stopped s p i (rowOf s p i) t)
+
+  -- a counter without a running timer is 0
+  pub step-counter-rests : (k : Counter) → has (stepOf s p i out .next .running) (timerOf k) ≡ false → countIn k (stepOf s p i out .next .counters) ≡ 0
+  step-counter-rests k =
+      subst (λ (r : Stepped). has (r .next .running) (timerOf k) ≡ false → countIn k (r .next .counters) ≡ 0) (sym step-done)
+      (counter-rests s p i (rowOf s p i) k)
+
+  -- whoever comes to P1 starts TFP7
+  pub step-entering-starts : changes (p .state) (stepOf s p i out .next .state) ≡ true → eqb (stateNumber (stepOf s p i out .next .state)) 1 ≡ true
+      → has (stepOf s p i out .start) PrivateTimer.Tfp7 ≡ true
+  step-entering-starts =
+      subst (λ (r : Stepped). changes (p .state) (r .next .state) ≡ true → eqb (stateNumber (r .next .state)) 1 ≡ true → has (r .start) PrivateTimer.Tfp7 ≡ true)
+      (sym step-done) (entering-starts s p i (rowOf s p i))

@@ -1,7 +1,7 @@
 -- Every private row, played, comes out as told, and so does a run. Assumes nothing.
 use mathlib.Core.Path.{refl}
 use Rattle.frame.specs.Digits.{inHex, allInHex}
-use Rattle.frame.specs.Frame.{partiesGood, setupGood, groupCallGood, acceptanceGood, inRange}
+use Rattle.frame.specs.Frame.{partiesGood, setupGood, inRange}
 use Rattle.frame.specs.Layout.{digitsOf, frameInHex, lineOf}
 use Rattle.frame.specs.Writing.{writeNumber}
 use Rattle.call.specs.Settings.{settingsGood}

@@ -1,37 +1,26 @@
 -- Every private row played once or more: what is stored, what happens, and what must come of it, to the last byte. Assumes nothing.
 use mathlib.Core.Path.{_≡_}
 use mathlib.Core.List.{List, [], _∷_}
-use mathlib.Core.Bool.{Bool, true, false}
 use Prim.Native.Nat.{ℕ}
 use Prim.Native.String.{String}
 use lib.ListN.{length, replicate}
-use Rattle.frame.specs.Range.{privateType}
 use Rattle.frame.specs.Lent.{atFront}
 use Rattle.frame.specs.Layout.{longestLine}
-use Rattle.frame.specs.declared.Media.{Media}
-use Rattle.frame.specs.declared.Message.{Message}
-use Rattle.frame.specs.declared.Message.the-variants.{SetupRequest, Ringing, Accept, Reject, Release, ReleaseAck, AcceptAck, Announcement, GroupAccept}
+use Rattle.frame.specs.declared.Message.the-variants.{Ringing, Accept, Reject, Release, ReleaseAck, AcceptAck}
 use Rattle.call.specs.Settings.{noCounters}
-use Rattle.call.specs.declared.Counters.{Counters}
 use Rattle.call.specs.declared.Settings.{Settings}
 use Rattle.call.specs.declared.PrivateTimer.{PrivateTimer}
-use Rattle.call.specs.declared.Timer.{Timer}
-use Rattle.call.specs.declared.GroupTimer.{GroupTimer}
 use Rattle.call.specs.declared.PrivateAction.{PrivateAction}
-use Rattle.call.specs.declared.GroupAction.{GroupAction}
-use Rattle.call.specs.declared.Action.{Action}
-use Rattle.call.specs.declared.Event.{Event}
 use Rattle.call.specs.declared.Input.{Input}
-use Rattle.private_rows.specs.Phases.{noTimer, tfp1, tfp2, tfp3, tfp4, tfp5, tfp7, stateOf, runningOf}
+use Rattle.private_rows.specs.Phases.{noTimer, tfp1, tfp2, tfp3, tfp4, tfp5, tfp7}
 use Rattle.private_rows.specs.Formed.{clearedRecord}
 use Rattle.private_rows.specs.declared.states.Timers.{Timers}
 use Rattle.private_rows.specs.declared.states.Phase.{Phase}
-use Rattle.private_rows.specs.declared.states.PrivateCall.{PrivateCall}
 use Rattle.private_rows.specs.declared.states.PrivateRecord.{PrivateRecord}
-use Rattle.private_call.specs.Step.{refusedOf, discarded, stepOf, stepBuffer}
+use Rattle.private_call.specs.Step.{stepOf, stepBuffer}
 use Rattle.private_call.specs.Running.{sentPrivate}
 use Rattle.demands.specs.Text.{bytes}
-use Rattle.demands.specs.Played.{crewWith, crew, restrictedCrew, five, six, secure, outgoing, ours, answered, theirs, taken, cfp1At, cfp3At, cfp4At, stored, input, hears, hearsInVain, hearsSigned, request, does, acceptsSigned, starts, expires}
+use Rattle.demands.specs.Played.{crew, restrictedCrew, secure, outgoing, ours, answered, theirs, taken, cfp1At, cfp3At, cfp4At, stored, hears, hearsInVain, hearsSigned, request, does, acceptsSigned, starts, expires}
 
 -- ---- the plays
 

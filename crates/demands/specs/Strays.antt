@@ -12,15 +12,19 @@ use Rattle.call.specs.declared.Settings.{Settings}
 use Rattle.call.specs.declared.PrivateTimer.{PrivateTimer}
 use Rattle.call.specs.declared.Timer.{Timer}
 use Rattle.call.specs.declared.GroupTimer.{GroupTimer}
+use Rattle.call.specs.declared.PrivateAction.{PrivateAction}
 use Rattle.call.specs.declared.GroupAction.{GroupAction}
 use Rattle.call.specs.declared.Action.{Action}
 use Rattle.call.specs.declared.Event.{Event}
 use Rattle.call.specs.declared.Input.{Input}
-use Rattle.private_rows.specs.Formed.{clearedRecord}
+use Rattle.private_rows.specs.Phases.{runningOf}
+use Rattle.private_rows.specs.Formed.{noCall, clearedRecord}
+use Rattle.private_rows.specs.declared.states.State.{State}
+use Rattle.private_rows.specs.declared.states.Timers.{Timers}
 use Rattle.private_rows.specs.declared.states.Phase.{Phase}
 use Rattle.private_rows.specs.declared.states.PrivateRecord.{PrivateRecord}
 use Rattle.private_call.specs.Step.{refusedOf, discarded, stepOf, stepBuffer}
-use Rattle.demands.specs.Played.{crewWith, crew, secure, ours, theirs, taken, cfp1At, cfp4At, stored, input, hears, hearsInVain, request, starts, expires}
+use Rattle.demands.specs.Played.{crewWith, crew, secure, ours, theirs, taken, cfp1At, cfp4At, stored, input, hears, hearsInVain, request, does, starts, expires}
 
 -- ---- what meets no row
 
@@ -69,6 +73,10 @@ AllStray (x ∷ xs) = ((stepOf crew (x .0) (x .1) [] ≡ discarded (x .0)) × (s
 
 -- ---- what is refused
 
+-- our call in a state with any timers
+abbrev pub running : State → Timers → PrivateRecord
+running state timers = record { state = state; running = timers; counters = noCounters; call = ours }
+
 -- number, settings, record, input and the length of the buffer
 unfoldable pub refusals : List (ℕ × Settings × PrivateRecord × Input × ℕ)
 refusals =
@@ -80,6 +88,10 @@ refusals =
     ∷ (8, crew, stored Phase.P1 noCounters ours, starts 0x1234, 0)
     ∷ (9, crew, stored Phase.P2Tfp1 (cfp1At 4) ours, starts 0, 0)
     ∷ (9, crew, stored Phase.P2Tfp1 (cfp1At 1) theirs, starts 0x1235, 63)
+    ∷ (9, crew, stored Phase.P4 (cfp4At 1) ours, does PrivateAction.End, 63)
+    ∷ (9, crew, stored Phase.P1 noCounters noCall, expires PrivateTimer.Tfp7, 63)
+    ∷ (9, crew, running State.P2 (record { tfp1 = true; tfp2 = true; tfp3 = false; tfp4 = false; tfp5 = false; tfp7 = false }), expires PrivateTimer.Tfp2, 63)
+    ∷ (9, crew, running State.P4 (runningOf Phase.P1), expires PrivateTimer.Tfp7, 63)
     ∷ []
 
 -- each is refused so

@@ -3,9 +3,7 @@ use Prim.Native.Nat.{ℕ}
 use mathlib.Core.Path.{_≡_, refl, sym, _∙_, subst}
 use mathlib.Core.List.{List}
 use mathlib.Core.Bool.{Bool, true, false, not, _&&_, _||_}
-use lib.ListN.{length}
 use lib.Dec.{eqb}
-use borrow.Author.Tests.{eq-eqb}
 use Rattle.call.specs.declared.Settings.{Settings}
 use Rattle.call.specs.declared.PrivateTimer.{PrivateTimer}
 use Rattle.call.specs.declared.Input.{Input}
@@ -17,9 +15,10 @@ use Rattle.private_rows.specs.declared.rows.Row.{Row}
 use Rattle.private_effects.specs.Effects.{effectOf}
 use Rattle.private_effects.specs.Carried.{ranOut, changes, startedOf, stoppedOf, countersAfter, startedBy, carryOut}
 use Rattle.private_effects.specs.declared.effects.Effect.{Effect}
-use Rattle.private_call.specs.Step.{doneOf, stepLine, stepNumber, movedOf, stepOf}
+use Rattle.private_call.specs.Step.{stepNumber, stepOf}
 use Rattle.private_call.specs.declared.Stepped.{Stepped}
 use Rattle.private_call.specs.NoReply.{Counter, cfp1, cfp3, cfp4, countIn, timerOf}
+use Rattle.private_call.proofs.Steps.{step-done}
 
 -- whether a timer is stopped
 stopped-one : (changed : Bool) (asked was started out : Timers) (t : PrivateTimer) → has (stoppedOf changed asked was started out) t
@@ -87,27 +86,22 @@ module _ (s : Settings) (p : PrivateRecord) (i : Input) (row : Row) where
 -- ---- the same of the answer of a step that is not refused
 
 module _ (s : Settings) (p : PrivateRecord) (i : Input) (out : List ℕ) (e : stepNumber s p i out ≡ 0) where
-  -- its answer is what is carried out
-  pub step-done : stepOf s p i out ≡ movedOf (rowOf s p i) (doneOf s p i) (length (stepLine s p i))
-  unfolding stepOf
-  step-done = rw (eq-eqb (stepNumber s p i out) 0 e) refl
-
   -- leaving a state stops each timer that runs there, if the row does not start it anew
   pub step-change-stops : (t : PrivateTimer) → changes (p .state) (stepOf s p i out .next .state) ≡ true → has (p .running) t ≡ true
       → has (stepOf s p i out .start) t ≡ false → has (ranOut (i .event)) t ≡ false → has (stepOf s p i out .stop) t ≡ true
   step-change-stops t =
       subst (λ (r : Stepped). changes (p .state) (r .next .state) ≡ true → has (p .running) t ≡ true → has (r .start) t ≡ false
-      → has (ranOut (i .event)) t ≡ false → has (r .stop) t ≡ true) (sym step-done) (change-stops s p i (rowOf s p i) t)
+      → has (ranOut (i .event)) t ≡ false → has (r .stop) t ≡ true) (sym (step-done s p i out e)) (change-stops s p i (rowOf s p i) t)
 
   -- no step stops the timer whose expiry it is about
   pub step-spares-ran-out : (t : PrivateTimer) → has (ranOut (i .event)) t ≡ true → has (stepOf s p i out .stop) t ≡ false
   step-spares-ran-out t =
-      subst (λ (r : Stepped). has (ranOut (i .event)) t ≡ true → has (r .stop) t ≡ false) (sym step-done) (ran-out-never-stopped s p i (rowOf s p i) t)
+      subst (λ (r : Stepped). has (ranOut (i .event)) t ≡ true → has (r .stop) t ≡ false) (sym (step-done s p i out e)) (ran-out-never-stopped s p i (rowOf s p i) t)
 
   -- a counter without a running timer is 0
   pub step-counter-rests : (k : Counter) → has (stepOf s p i out .next .running) (timerOf k) ≡ false → countIn k (stepOf s p i out .next .counters) ≡ 0
   step-counter-rests k =
-      subst (λ (r : Stepped). has (r .next .running) (timerOf k) ≡ false → countIn k (r .next .counters) ≡ 0) (sym step-done)
+      subst (λ (r : Stepped). has (r .next .running) (timerOf k) ≡ false → countIn k (r .next .counters) ≡ 0) (sym (step-done s p i out e))
       (counter-rests s p i (rowOf s p i) k)
 
   -- whoever comes to P1 starts TFP7
@@ -115,4 +109,4 @@ module _ (s : Settings) (p : PrivateRecord) (i : Input) (out : List ℕ) (e : st
       → has (stepOf s p i out .start) PrivateTimer.Tfp7 ≡ true
   step-entering-starts =
       subst (λ (r : Stepped). changes (p .state) (r .next .state) ≡ true → eqb (stateNumber (r .next .state)) 1 ≡ true → has (r .start) PrivateTimer.Tfp7 ≡ true)
-      (sym step-done) (entering-starts s p i (rowOf s p i))
+      (sym (step-done s p i out e)) (entering-starts s p i (rowOf s p i))

@@ -37,7 +37,7 @@ use Rattle.private_call.specs.declared.Stepped.{Stepped}
 use Rattle.private_call.specs.Running.{expiry, userAccepts}
 use Rattle.private_call.specs.NoReply.{Counter, cfp1, cfp3, cfp4, timerOf, phaseWhere}
 use Rattle.private_call.proofs.Keeping.{Taken}
-use Rattle.private_call.proofs.Steps.{stepFrom, tests-passed, step-passed, keeps-well-formed, discards}
+use Rattle.private_call.proofs.Steps.{stepFrom, tests-passed, step-passed, step-done, keeps-well-formed, discards}
 
 -- ---- a step by its row
 
@@ -50,19 +50,17 @@ carries s p i out row e r w = (λ j. stepFrom p out (e j) (r j) (carryOut s p i 
 
 -- the next record of a step that is not refused
 pub next-done : (s : Settings) (p : PrivateRecord) (i : Input) (out : List ℕ) → stepNumber s p i out ≡ 0 → stepOf s p i out .next ≡ doneOf s p i .next
-unfolding stepOf
-next-done s p i out e = rw (eq-eqb (stepNumber s p i out) 0 e) refl
+next-done s p i out e = ap (λ (x : Stepped). x .next) (step-done s p i out e)
 
 -- the line of a step that is not refused
 pub line-done : (s : Settings) (p : PrivateRecord) (i : Input) (out : List ℕ) → stepNumber s p i out ≡ 0
     → (stepOf s p i out .length ≡ length (stepLine s p i)) × (stepBuffer s p i out ≡ atFront (stepLine s p i) out)
-unfolding stepOf stepBuffer
-line-done s p i out e = rw (eq-eqb (stepNumber s p i out) 0 e) (refl, refl)
+unfolding stepBuffer
+line-done s p i out e = (ap (λ (x : Stepped). x .length) (step-done s p i out e), rw (eq-eqb (stepNumber s p i out) 0 e) refl)
 
 -- the row of a step that is not refused
 pub row-done : (s : Settings) (p : PrivateRecord) (i : Input) (out : List ℕ) → stepNumber s p i out ≡ 0 → stepOf s p i out .row ≡ rowNumber (rowOf s p i)
-unfolding stepOf
-row-done s p i out e = rw (eq-eqb (stepNumber s p i out) 0 e) refl
+row-done s p i out e = ap (λ (x : Stepped). x .row) (step-done s p i out e)
 
 -- a row above 0 is that of a step that is not refused
 pub row-met : (s : Settings) (p : PrivateRecord) (i : Input) (out : List ℕ) (row : Row) → (rowNumber row ≡ 0 → ⊥) → stepOf s p i out .row ≡ rowNumber row

@@ -58,6 +58,11 @@ module _ (s : Settings) (p : PrivateRecord) (i : Input) where
       go : (n w : ℕ) → cond (eqb n 0) w n ≡ 0 → (n ≡ 0) × (w ≡ 0)
       go n w h = pick (eqb n 0) n w refl h
 
+  -- the answer of a step that is not refused: what its row carries out, with the length of its line
+  pub step-done : (out : List ℕ) → stepNumber s p i out ≡ 0 → stepOf s p i out ≡ movedOf (rowOf s p i) (doneOf s p i) (length (stepLine s p i))
+  unfolding stepOf
+  step-done out e = rw (eq-eqb (stepNumber s p i out) 0 e) refl
+
   -- the number of the answer
   pub number-told : (out : List ℕ) → stepOf s p i out .number ≡ stepNumber s p i out
   unfolding stepOf

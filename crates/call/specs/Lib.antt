@@ -1,4 +1,6 @@
 pub mod Settings
 pub mod Request
+pub mod Announced
 pub mod Numbers
 pub mod Sending
+pub mod Timing

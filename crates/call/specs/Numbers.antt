@@ -1,6 +1,6 @@
 -- The numbers that come ahead of any row, whatever the state: 7, 9, and 5 or 8. Assumes nothing.
 use Prim.Native.Nat.{ℕ}
-use mathlib.Core.List.{List, [], _∷_}
+use mathlib.Core.List.{List, [], _∷_, _++_}
 use mathlib.Core.Bool.{Bool, true, not, _&&_}
 use lib.Dec.{eqb}
 use Rattle.frame.specs.Number.{firstGiven}
@@ -9,7 +9,8 @@ use Rattle.frame.specs.Frame.{inRange}
 use Rattle.frame.specs.declared.Media.{Media}
 use Rattle.frame.specs.declared.Message.the-variants.{Announcement}
 use Rattle.call.specs.Settings.{settingsGood}
-use Rattle.call.specs.Request.{asMessage, startRequest, startedGroupCall}
+use Rattle.call.specs.Request.{asMessage, startRequest}
+use Rattle.call.specs.Announced.{startedGroupCall}
 use Rattle.call.specs.declared.Settings.{Settings}
 use Rattle.call.specs.declared.PrivateStart.{PrivateStart}
 use Rattle.call.specs.declared.PrivateAction.{PrivateAction}
@@ -73,3 +74,13 @@ testsBeforeRow s wellFormed i =
 -- the first of them that is given, or 0
 unfoldable pub numberBeforeRow : Settings → Bool → Input → ℕ
 numberBeforeRow s wellFormed i = firstGiven (testsBeforeRow s wellFormed i)
+
+-- ---- with the 8 that only a row gives
+
+-- the tests of a step ahead of sending, in their order: those ahead of any row, then the 8 of R1 or G9
+abbrev pub testsOfStep : Settings → Bool → Input → Bool → List (ℕ × Bool)
+testsOfStep s wellFormed i refusedByRow = testsBeforeRow s wellFormed i ++ ((8, refusedByRow) ∷ [])
+
+-- the first of them that is given, or 0
+abbrev pub numberOfTests : Settings → Bool → Input → Bool → ℕ
+numberOfTests s wellFormed i refusedByRow = firstGiven (testsOfStep s wellFormed i refusedByRow)

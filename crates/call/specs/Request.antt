@@ -1,14 +1,12 @@
--- The setup request that an event brings, and the announcement that a start makes. Assumes nothing.
+-- The setup request that an event brings. Assumes nothing.
 use Prim.Native.Nat.{ℕ}
 use Rattle.frame.specs.Range.{privateType}
 use Rattle.frame.specs.declared.Parties.{Parties}
-use Rattle.frame.specs.declared.GroupCall.{GroupCall}
 use Rattle.frame.specs.declared.Message.{Message}
 use Rattle.frame.specs.declared.Message.the-variants.{SetupRequest, Ringing, Accept, Reject, Release, ReleaseAck, AcceptAck, Announcement, GroupAccept}
 use Rattle.call.specs.declared.Settings.{Settings}
 use Rattle.call.specs.declared.PrivateStart.{PrivateStart}
 use Rattle.call.specs.declared.PrivateAction.{PrivateAction}
-use Rattle.call.specs.declared.GroupStart.{GroupStart}
 use Rattle.call.specs.declared.Action.{Action}
 use Rattle.call.specs.declared.Event.{Event}
 use Rattle.call.specs.declared.Request.{Request}
@@ -64,17 +62,3 @@ abbrev pub requestOf : Settings → Event → Request
 requestOf s (Event.Action a) = actionRequest s a
 requestOf s (Event.Expiry t) = noRequest
 requestOf s (Event.Message m) = messageRequest m
-
--- the group call that the user's start makes: group, originator and last changer are own, both times are now
-abbrev pub startedGroupCall : Settings → GroupStart → GroupCall
-startedGroupCall s x =
-    record {
-      identifier = x .identifier;
-      group = s .«own_group»;
-      «call_type» = x .«call_type»;
-      refresh = x .refresh;
-      originator = s .«own_user»;
-      start = x .now;
-      «last_change» = x .now;
-      «last_changer» = s .«own_user»;
-    }

@@ -1,11 +1,14 @@
 // What the private and the group machine share: settings, timers, user actions, events, verdicts, what a step sends.
+mod announcements;
 mod number;
 pub mod requests;
 
 ghost use mathlib.Core.Path.{_≡_};
 ghost use Rattle.call.specs.Numbers.{numberBeforeRow};
+ghost use Rattle.call.specs.Announced.{announcedOf};
 ghost use Rattle.call.specs.Request.{requestOf};
 ghost use Rattle.call.specs.Sending.{sendTold, sendBuffer};
+use frame::GroupCall;
 use frame::Media;
 use frame::Message;
 use frame::Parties;
@@ -157,6 +160,20 @@ impl Request {
     };
 }
 
+// An announcement: a group call, all but its media, and whether it asks the others to confirm.
+pub struct Announced {
+    pub call: GroupCall,
+    pub confirm: u8,
+}
+
+impl Announced {
+    // What an event without an announcement has in its place.
+    pub const NONE: Announced = Announced {
+        call: GroupCall::NONE,
+        confirm: 0,
+    };
+}
+
 // The number that a step gives before it looks for a row: 7 for a setting, 9 for a record that is not well formed,
 // 5 for a field of a message, 8 for an argument of an action; 0 where there is nothing to refuse.
 pub fn number_before_row(settings: Settings, well_formed: bool, input: Input) -> u8
@@ -187,6 +204,18 @@ pub fn request_of(settings: Settings, event: Event) -> Request
         Event::Action(action) => requests::action_request(settings, action),
         Event::Expiry(_) => Request::NONE,
         Event::Message(message) => requests::message_request(message),
+    }
+}
+
+// The announcement that an event brings: the one received, or the one that the user's start makes; a raise brings its
+// type, its time and own as the changer.
+pub fn announced_of(settings: Settings, event: Event) -> Announced
+    ensures { λ r. ⌜ r ≡ announcedOf settings event ⌝ }
+{
+    match event {
+        Event::Action(action) => announcements::action_announced(settings, action),
+        Event::Expiry(_) => Announced::NONE,
+        Event::Message(message) => announcements::message_announced(message),
     }
 }
 

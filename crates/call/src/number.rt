@@ -3,7 +3,6 @@ ghost use mathlib.Core.Path.{_≡_};
 ghost use Rattle.frame.specs.Digits.{four};
 ghost use Rattle.frame.specs.Range.{neverZero};
 ghost use Rattle.call.specs.Settings.{limitGood, limitsGood, settingsGood};
-ghost use Rattle.call.specs.Request.{startedGroupCall};
 ghost use Rattle.call.specs.Numbers.{heardGood, privateStartGood, privateArgumentsGood, groupStartGood};
 ghost use Rattle.call.specs.Numbers.{raiseGood, groupArgumentsGood, actionGood, argumentsGood};
 use crate::Action;
@@ -15,8 +14,8 @@ use crate::GroupStart;
 use crate::PrivateAction;
 use crate::PrivateStart;
 use crate::Settings;
+use crate::announcements::started_group_call;
 use crate::requests::start_request;
-use frame::GroupCall;
 use frame::Media;
 use frame::Message;
 use frame::range::in_range;
@@ -132,20 +131,4 @@ fn raise_good(raise: GroupRaise) -> bool
     ensures { λ r. ⌜ r ≡ raiseGood raise ⌝ }
 {
     ((1 <= raise.call_type) & (raise.call_type <= 3)) & (raise.now <= 4294967295)
-}
-
-// The group call that the user's start makes.
-fn started_group_call(settings: Settings, start: GroupStart) -> GroupCall
-    ensures { λ r. ⌜ r ≡ startedGroupCall settings start ⌝ }
-{
-    GroupCall {
-        identifier: start.identifier,
-        group: settings.own_group,
-        call_type: start.call_type,
-        refresh: start.refresh,
-        originator: settings.own_user,
-        start: start.now,
-        last_change: start.now,
-        last_changer: settings.own_user,
-    }
 }

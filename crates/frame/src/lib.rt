@@ -62,6 +62,20 @@ pub struct GroupCall {
     pub last_changer: u32,
 }
 
+impl GroupCall {
+    // Where there is no call.
+    pub const NONE: GroupCall = GroupCall {
+        identifier: 0,
+        group: 0,
+        call_type: 0,
+        refresh: 0,
+        originator: 0,
+        start: 0,
+        last_change: 0,
+        last_changer: 0,
+    };
+}
+
 // A user's acceptance of a group call.
 pub struct Acceptance {
     pub identifier: u16,

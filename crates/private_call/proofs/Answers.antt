@@ -1,32 +1,21 @@
 -- The cases of a step: refused by a test, refused by the writer, carried out. Assumes nothing.
 use Prim.Native.Nat.{ℕ}
 use mathlib.Core.Path.{_≡_, refl}
-use mathlib.Core.List.{List, [], _∷_}
-use mathlib.Core.Bool.{Bool, true, false, cond, not}
+use mathlib.Core.List.{List}
+use mathlib.Core.Bool.{Bool, true, false, cond}
 use native.Mathlib.Omega.{arith}
 use lib.Dec.{eqb}
 use borrow.Author.Tests.{eq-eqb, ne-eqb}
-use Rattle.frame.specs.Number.{firstGiven}
 use Rattle.call.specs.Numbers.{numberBeforeRow}
-use Rattle.call.specs.Settings.{settingsGood}
-use Rattle.call.specs.Numbers.{heardGood, argumentsGood}
 use Rattle.call.specs.Sending.{sendNumber, sendTold, sendBuffer}
 use Rattle.call.specs.declared.Settings.{Settings}
 use Rattle.call.specs.declared.Input.{Input}
+use Rattle.call.proofs.Stepping.{tests-parts}
 use Rattle.private_rows.specs.Formed.{wellFormed}
 use Rattle.private_rows.specs.Rows.{rowOf}
 use Rattle.private_rows.specs.declared.states.PrivateRecord.{PrivateRecord}
 use Rattle.private_call.specs.Step.{identifierTaken, numberBeforeSending, doneOf, stepNumber, refusedOf, movedOf, stepOf, stepBuffer}
 use Rattle.private_call.specs.declared.Stepped.{Stepped}
-
--- a fifth test is asked where the first four give 0
-fifth : (a b c d t : Bool) → firstGiven ((7, a) ∷ (9, b) ∷ (5, c) ∷ (8, d) ∷ (8, t) ∷ [])
-    ≡ cond (eqb (firstGiven ((7, a) ∷ (9, b) ∷ (5, c) ∷ (8, d) ∷ [])) 0) (cond t 8 0) (firstGiven ((7, a) ∷ (9, b) ∷ (5, c) ∷ (8, d) ∷ []))
-fifth true b c d t = refl
-fifth false true c d t = refl
-fifth false false true d t = refl
-fifth false false false true t = refl
-fifth false false false false t = refl
 
 module _ (s : Settings) (p : PrivateRecord) (i : Input) (out : List ℕ) where
   -- the number before a row is looked for
@@ -47,10 +36,7 @@ module _ (s : Settings) (p : PrivateRecord) (i : Input) (out : List ℕ) where
 
   -- the number before sending, in its two parts
   parts : numberBeforeSending s p i ≡ cond (eqb before 0) (cond taken 8 0) before
-  unfolding numberBeforeRow
-  parts =
-      fifth (not (settingsGood s)) (not (wellFormed s p)) (not (heardGood (i .event) (i .media)))
-      (not (argumentsGood s (i .event) (i .media))) taken
+  parts = tests-parts s (wellFormed s p) i taken
 
   -- a number that is not 0 refuses
   refuses : (n : ℕ) → stepNumber s p i out ≡ n → (n ≡ 0 → ⊥) → Answers (refusedOf n p) out

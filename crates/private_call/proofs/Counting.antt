@@ -9,14 +9,10 @@ use Rattle.frame.specs.Range.{within}
 use Rattle.frame.proofs.Laws.{and-split, within-split}
 use Rattle.call.specs.Settings.{limitGood, limitsGood}
 use Rattle.call.specs.declared.Counters.{Counters}
+use Rattle.call.proofs.Laws.{both}
 use Rattle.private_rows.specs.Formed.{counterGood, countersGood}
 use Rattle.private_rows.specs.declared.states.Timers.{Timers}
 use Rattle.private_effects.specs.Carried.{oneMore, counterAfter, countersAfter, runningAfter}
-
--- both
-pub both : (a b : Bool) → a ≡ true → b ≡ true → (a && b) ≡ true
-both true b e f = f
-both false b e f = e
 
 -- between its ends
 inside : (low n high : ℕ) → low ≤ n → n ≤ high → within low n high ≡ true

@@ -1,13 +1,14 @@
 -- Where no row is met nothing changes. Assumes nothing.
 use Prim.Native.Nat.{ℕ}
 use mathlib.Core.Path.{_≡_, refl, sym, ap, _∙_, subst}
-use mathlib.Core.Bool.{Bool, true, false, not, _&&_}
+use mathlib.Core.Bool.{Bool, true, false, not}
 use borrow.Author.Tests.{eqb-true, eq-eqb}
 use Rattle.frame.proofs.Laws.{and-split}
 use Rattle.call.specs.declared.Counters.{Counters}
 use Rattle.call.specs.declared.Settings.{Settings}
 use Rattle.call.specs.declared.Input.{Input}
 use Rattle.call.specs.declared.Send.{Send}
+use Rattle.call.proofs.Timing.{stops-none}
 use Rattle.private_rows.specs.Phases.{stateNumber, noTimer, runningOf}
 use Rattle.private_rows.specs.Formed.{counterGood, countersGood}
 use Rattle.private_rows.specs.Causes.{causeOf, factsOf}
@@ -47,11 +48,6 @@ counters-same w again limits n g =
       cfp4 = counter-same (w .tfp4) again (limits .cfp4) (n .cfp4) (b .1) i;
     }
 
--- no more
-and-false : (b : Bool) → (b && false) ≡ false
-and-false true = refl
-and-false false = refl
-
 -- a state that stays does not change
 unchanged : (state : State) → changes state state ≡ false
 unchanged state = ap not (eq-eqb (stateNumber state) (stateNumber state) refl)
@@ -66,12 +62,12 @@ stops-nothing : (state : State) (was out : Timers) → stoppedBy state was out (
 unfolding stoppedOf
 stops-nothing state was out =
     rw (unchanged state) (λ i. record {
-      tfp1 = and-false (was .tfp1) i;
-      tfp2 = and-false (was .tfp2) i;
-      tfp3 = and-false (was .tfp3) i;
-      tfp4 = and-false (was .tfp4) i;
-      tfp5 = and-false (was .tfp5) i;
-      tfp7 = and-false (was .tfp7) i;
+      tfp1 = stops-none (was .tfp1) (startedBy state (effectOf Discard state) .tfp1) (out .tfp1) i;
+      tfp2 = stops-none (was .tfp2) (startedBy state (effectOf Discard state) .tfp2) (out .tfp2) i;
+      tfp3 = stops-none (was .tfp3) (startedBy state (effectOf Discard state) .tfp3) (out .tfp3) i;
+      tfp4 = stops-none (was .tfp4) (startedBy state (effectOf Discard state) .tfp4) (out .tfp4) i;
+      tfp5 = stops-none (was .tfp5) (startedBy state (effectOf Discard state) .tfp5) (out .tfp5) i;
+      tfp7 = stops-none (was .tfp7) (startedBy state (effectOf Discard state) .tfp7) (out .tfp7) i;
     })
 
 -- so what runs afterwards is what ran and did not run out

@@ -2,11 +2,13 @@
 use Prim.Native.Nat.{ℕ}
 use mathlib.Core.Path.{_≡_, refl, sym, _∙_, subst}
 use mathlib.Core.List.{List}
-use mathlib.Core.Bool.{Bool, true, false, not, _&&_, _||_}
+use mathlib.Core.Bool.{Bool, true, false, _||_}
 use lib.Dec.{eqb}
+use Rattle.call.specs.Timing.{isStopped}
 use Rattle.call.specs.declared.Settings.{Settings}
 use Rattle.call.specs.declared.PrivateTimer.{PrivateTimer}
 use Rattle.call.specs.declared.Input.{Input}
+use Rattle.call.proofs.Timing.{change-stops-one, spares-one}
 use Rattle.private_rows.specs.Phases.{stateNumber, has}
 use Rattle.private_rows.specs.declared.states.Timers.{Timers}
 use Rattle.private_rows.specs.declared.states.PrivateRecord.{PrivateRecord}
@@ -22,7 +24,7 @@ use Rattle.private_call.proofs.Steps.{step-done}
 
 -- whether a timer is stopped
 stopped-one : (changed : Bool) (asked was started out : Timers) (t : PrivateTimer) → has (stoppedOf changed asked was started out) t
-    ≡ (has was t && ((changed || has asked t) && (not (has started t) && not (has out t))))
+    ≡ isStopped changed (has asked t) (has was t) (has started t) (has out t)
 unfolding stoppedOf
 stopped-one changed asked was started out PrivateTimer.Tfp1 = refl
 stopped-one changed asked was started out PrivateTimer.Tfp2 = refl
@@ -30,21 +32,6 @@ stopped-one changed asked was started out PrivateTimer.Tfp3 = refl
 stopped-one changed asked was started out PrivateTimer.Tfp4 = refl
 stopped-one changed asked was started out PrivateTimer.Tfp5 = refl
 stopped-one changed asked was started out PrivateTimer.Tfp7 = refl
-
--- leaving a state stops what runs, is not started anew and did not run out just now
-stops : (changed asked was started out : Bool) → changed ≡ true → was ≡ true → started ≡ false → out ≡ false
-    → (was && ((changed || asked) && (not started && not out))) ≡ true
-stops changed asked was started out a b c d = rw (a, b, c, d) refl
-
--- one that just ran out is not stopped
-spares : (changed asked was started out : Bool) → out ≡ true → (was && ((changed || asked) && (not started && not out))) ≡ false
-spares changed asked was started out e = rw e (go was (changed || asked) started)
-  where
-    go : (w x s : Bool) → (w && (x && (not s && false))) ≡ false
-    go false x s = refl
-    go true false s = refl
-    go true true true = refl
-    go true true false = refl
 
 module _ (s : Settings) (p : PrivateRecord) (i : Input) (row : Row) where
   -- what the row does
@@ -57,14 +44,14 @@ module _ (s : Settings) (p : PrivateRecord) (i : Input) (row : Row) where
   unfolding carryOut
   change-stops t a b c d =
       stopped-one (changes (p .state) (effect .to)) (effect .stop) (p .running) (startedBy (p .state) effect) (ranOut (i .event)) t
-      ∙ stops (changes (p .state) (effect .to)) (has (effect .stop) t) (has (p .running) t) (has (startedBy (p .state) effect) t) (has (ranOut (i .event)) t) a b c d
+      ∙ change-stops-one (changes (p .state) (effect .to)) (has (effect .stop) t) (has (p .running) t) (has (startedBy (p .state) effect) t) (has (ranOut (i .event)) t) a b c d
 
   -- no step stops the timer whose expiry it is about
   pub ran-out-never-stopped : (t : PrivateTimer) → has (ranOut (i .event)) t ≡ true → has (carryOut s p i row .stop) t ≡ false
   unfolding carryOut
   ran-out-never-stopped t e =
       stopped-one (changes (p .state) (effect .to)) (effect .stop) (p .running) (startedBy (p .state) effect) (ranOut (i .event)) t
-      ∙ spares (changes (p .state) (effect .to)) (has (effect .stop) t) (has (p .running) t) (has (startedBy (p .state) effect) t) (has (ranOut (i .event)) t) e
+      ∙ spares-one (changes (p .state) (effect .to)) (has (effect .stop) t) (has (p .running) t) (has (startedBy (p .state) effect) t) (has (ranOut (i .event)) t) e
 
   -- a counter without a running timer is 0
   pub counter-rests : (k : Counter) → has (carryOut s p i row .next .running) (timerOf k) ≡ false → countIn k (carryOut s p i row .next .counters) ≡ 0

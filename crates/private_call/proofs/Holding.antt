@@ -14,17 +14,16 @@ use Rattle.frame.proofs.Laws.{and-split, within-split}
 use Rattle.call.specs.Request.{asMessage}
 use Rattle.call.specs.declared.Settings.{Settings}
 use Rattle.call.specs.declared.Request.{Request}
+use Rattle.call.proofs.Laws.{both, bothBools, at-bool}
 use Rattle.private_rows.specs.Formed.{callNone, callRequest, fieldsGood, oneOwn, roleGood, usersGood, usersOf, callGood}
 use Rattle.private_rows.specs.Rows.{sameCause}
 use Rattle.private_rows.specs.declared.states.State.{State}
 use Rattle.private_rows.specs.declared.states.PrivateCall.{PrivateCall}
 use Rattle.private_rows.specs.declared.causes.Cause.{Cause}
-use Rattle.private_rows.proofs.Everywhere.{bothBools, at-bool}
 use Rattle.private_effects.specs.Carried.{callOf, withMedia, heldOf}
 use Rattle.private_effects.specs.declared.effects.Hold.{Hold}
 use Rattle.private_call.proofs.Brought.{New, Brings, bringsCall, bringsMedia}
 use Rattle.private_call.proofs.Settling.{startStop, mayStay, mayHold}
-use Rattle.private_call.proofs.Counting.{both}
 
 -- ---- the fields
 

@@ -11,11 +11,12 @@ use Rattle.frame.specs.declared.Message.{Message}
 use Rattle.frame.proofs.Laws.{and-split}
 use Rattle.call.specs.Settings.{restricted, limitsGood, settingsGood}
 use Rattle.call.specs.Request.{requestOf}
-use Rattle.call.specs.Numbers.{heardGood, argumentsGood}
 use Rattle.call.specs.declared.Settings.{Settings}
 use Rattle.call.specs.declared.Input.{Input}
 use Rattle.call.specs.declared.Request.{Request}
 use Rattle.call.specs.declared.Send.{Send}
+use Rattle.call.proofs.Laws.{both}
+use Rattle.call.proofs.Stepping.{Taken, SentGood}
 use Rattle.private_rows.specs.Phases.{stateOf, runningOf}
 use Rattle.private_rows.specs.Formed.{runningGood, fieldsGood, callGood, wellFormed}
 use Rattle.private_rows.specs.Causes.{causeOf, factsOf}
@@ -36,7 +37,7 @@ use Rattle.private_effects.specs.declared.effects.Say.{Say}
 use Rattle.private_effects.specs.declared.effects.Effect.{Effect}
 use Rattle.private_call.proofs.Brought.{outOf, ran-out-of, Brings, brings, bringsCall}
 use Rattle.private_call.proofs.Settling.{mayHold, holdsOne, maySay, Sound, rows-sound}
-use Rattle.private_call.proofs.Counting.{both, counters-keep}
+use Rattle.private_call.proofs.Counting.{counters-keep}
 use Rattle.private_call.proofs.Holding.{ranged, split, fields, held-good, one-held}
 
 -- ---- what is sent
@@ -52,11 +53,6 @@ reason-good s reason = go (restricted s) reason
     go false Reason.Busy = refl
     go false Reason.SecurityFailure = refl
     go false Reason.Failed = refl
-
--- what is sent is in range
-abbrev pub SentGood : Send → Media → Type 0
-SentGood Send.Nothing media = Unit {0}
-SentGood (Send.Message m) media = inRange m media ≡ true
 
 -- what is said of a call in range is in range, and so is what is said of a setup request that is brought
 said-good : (s : Settings) (c : Cause) (to : State) (hold : Hold) (say : Say) (call : PrivateCall) (other : Parties)
@@ -103,14 +99,7 @@ pub limits-good : (s : Settings) → settingsGood s ≡ true → limitsGood (s .
 unfolding settingsGood
 limits-good s e = and-split (neverZero four (s .«own_group»)) _ (and-split (neverZero four (s .«own_user»)) _ e .1) .1
 
--- a step that is not refused by its settings, its record or its event
-pub record Taken (s : Settings) (p : PrivateRecord) (i : Input) : Type 0 where
-  pub settings : settingsGood s ≡ true
-  pub formed : wellFormed s p ≡ true
-  pub message : heardGood (i .event) (i .media) ≡ true
-  pub arguments : argumentsGood s (i .event) (i .media) ≡ true
-
-module _ (s : Settings) (p : PrivateRecord) (i : Input) (t : Taken s p i) where
+module _ (s : Settings) (p : PrivateRecord) (i : Input) (t : Taken s (wellFormed s p) i) where
   -- what the row that is met does
   abbrev effect : Effect
   effect = effectOf (rowOf s p i) (p .state)

@@ -16,6 +16,7 @@ use Rattle.call.specs.declared.Settings.{Settings}
 use Rattle.call.specs.declared.Verdicts.{Verdicts}
 use Rattle.call.specs.declared.PrivateTimer.{PrivateTimer}
 use Rattle.call.specs.declared.Input.{Input}
+use Rattle.call.proofs.Stepping.{Taken}
 use Rattle.private_rows.specs.Phases.{has, noTimer, tfp2, tfp4, stateOf, runningOf, phaseIn}
 use Rattle.private_rows.specs.Formed.{counterGood, wellFormed}
 use Rattle.private_rows.specs.Causes.{causeOf, factsOf}
@@ -36,7 +37,6 @@ use Rattle.private_call.specs.Step.{numberBeforeSending, doneOf, stepLin
 use Rattle.private_call.specs.declared.Stepped.{Stepped}
 use Rattle.private_call.specs.Running.{expiry, userAccepts}
 use Rattle.private_call.specs.NoReply.{Counter, cfp1, cfp3, cfp4, timerOf, phaseWhere}
-use Rattle.private_call.proofs.Keeping.{Taken}
 use Rattle.private_call.proofs.Steps.{stepFrom, tests-passed, step-passed, step-done, keeps-well-formed, discards}
 
 -- ---- a step by its row
@@ -98,7 +98,7 @@ other-row : (f : Phase) (x : Facts) → rowIn f Cause.Other x ≡ Discard
 other-row f x = sym (found-is-met f Cause.Other x)
 
 -- whatever is the group machine's, and a setup request that does not count: discarded, unless a field is refused
-pub other-discarded : (s : Settings) (p : PrivateRecord) (i : Input) (out : List ℕ) → Taken s p i → causeOf s (i .event) ≡ Cause.Other
+pub other-discarded : (s : Settings) (p : PrivateRecord) (i : Input) (out : List ℕ) → Taken s (wellFormed s p) i → causeOf s (i .event) ≡ Cause.Other
     → (stepOf s p i out ≡ discarded p) × (stepBuffer s p i out ≡ out)
 other-discarded s p i out t c =
     let x = factsOf s (phaseOf p) (p .counters) (p .call) i in

@@ -3,6 +3,7 @@ use mathlib.Core.Path.{_≡_, refl}
 use mathlib.Core.Bool.{Bool, true, false, not, _&&_, _||_}
 use lib.Dec.{eqb}
 use Rattle.frame.proofs.Laws.{and-split}
+use Rattle.call.proofs.Laws.{bothBools}
 use Rattle.private_rows.specs.Phases.{stateNumber, has, setOf, sameTimers, stateOf, runningOf}
 use Rattle.private_rows.specs.Formed.{runningGood, roleGood}
 use Rattle.private_rows.specs.Rows.{rowNumber, sameCause, rowIn}
@@ -12,7 +13,6 @@ use Rattle.private_rows.specs.declared.states.Timers.{Timers}
 use Rattle.private_rows.specs.declared.causes.Cause.{Cause}
 use Rattle.private_rows.specs.declared.causes.Facts.{Facts}
 use Rattle.private_rows.specs.declared.rows.Row.{Row}
-use Rattle.private_rows.proofs.Everywhere.{bothBools}
 use Rattle.private_rows.proofs.Meets.{each-row}
 use Rattle.private_effects.specs.Effects.{effectOf}
 use Rattle.private_effects.specs.Carried.{startedOf, stoppedOf, runningAfter, runningBy}

@@ -2,18 +2,17 @@
 use Prim.Native.Nat.{ℕ}
 use mathlib.Core.Path.{_≡_, refl, sym, ap, _∙_}
 use mathlib.Core.List.{List}
-use mathlib.Core.Bool.{Bool, true, false, cond, not}
-use native.Mathlib.Omega.{arith}
+use mathlib.Core.Bool.{Bool, true, false, cond}
 use lib.ListN.{length}
 use lib.Dec.{eqb}
 use borrow.Author.Tests.{eq-eqb, eqb-true, eqb-false}
 use Rattle.frame.specs.Lent.{lentAfter}
-use Rattle.frame.proofs.Laws.{passed}
 use Rattle.call.specs.Settings.{settingsGood}
-use Rattle.call.specs.Numbers.{heardGood, argumentsGood}
 use Rattle.call.specs.Sending.{lineSent, sendNumber}
 use Rattle.call.specs.declared.Settings.{Settings}
 use Rattle.call.specs.declared.Input.{Input}
+use Rattle.call.proofs.Stepping.{Taken, SentGood, number-passed}
+use Rattle.call.proofs.Stepping as stepping
 use Rattle.private_rows.specs.Formed.{wellFormed}
 use Rattle.private_rows.specs.Rows.{rowNumber, rowOf}
 use Rattle.private_rows.specs.declared.states.PrivateRecord.{PrivateRecord}
@@ -23,40 +22,22 @@ use Rattle.private_rows.proofs.Meets.{same-row}
 use Rattle.private_rows.proofs.WellFormed.{fit}
 use Rattle.private_effects.specs.Carried.{ranOut, runningAfter, carryOut}
 use Rattle.private_effects.specs.declared.Carried.{Carried}
-use Rattle.private_call.proofs.Keeping.{SentGood, Taken, carried-well-formed, carried-sends-good}
+use Rattle.private_call.proofs.Keeping.{carried-well-formed, carried-sends-good}
 use Rattle.private_call.proofs.Discarding.{carried-nothing}
 use Rattle.private_call.specs.declared.Stepped.{Stepped}
 use Rattle.private_call.specs.Step.{identifierTaken, numberBeforeSending, doneOf, stepLine, stepNumber, refusedOf, movedOf, discarded, stepOf, stepBuffer}
 
 -- ---- what a number 0 shows
 
--- a test that passes holds
-holds : (b : Bool) → not b ≡ false → b ≡ true
-holds true e = refl
-holds false e = sym e
-
 module _ (s : Settings) (p : PrivateRecord) (i : Input) where
   -- the tests passed
-  pub tests-passed : numberBeforeSending s p i ≡ 0 → Taken s p i × (identifierTaken s p (i .event) (rowOf s p i) ≡ false)
-  tests-passed e =
-      let a = passed (not (settingsGood s)) 7 _ (omega arith) e in
-      let b = passed (not (wellFormed s p)) 9 _ (omega arith) (a .1) in
-      let c = passed (not (heardGood (i .event) (i .media))) 5 _ (omega arith) (b .1) in
-      let d = passed (not (argumentsGood s (i .event) (i .media))) 8 _ (omega arith) (c .1) in
-      let f = passed (identifierTaken s p (i .event) (rowOf s p i)) 8 0 (omega arith) (d .1) in
-      (record { settings = holds _ (a .0); formed = holds _ (b .0); message = holds _ (c .0); arguments = holds _ (d .0) }, f .0)
+  pub tests-passed : numberBeforeSending s p i ≡ 0 → Taken s (wellFormed s p) i × (identifierTaken s p (i .event) (rowOf s p i) ≡ false)
+  tests-passed = stepping.tests-passed s (wellFormed s p) i (identifierTaken s p (i .event) (rowOf s p i))
 
   -- a number 0 of a step passed the tests, and then the writer's is 0
   pub step-passed : (out : List ℕ) → stepNumber s p i out ≡ 0
       → (numberBeforeSending s p i ≡ 0) × (sendNumber (doneOf s p i .sent) (doneOf s p i .next .call .media) out ≡ 0)
-  step-passed out e = go (numberBeforeSending s p i) (sendNumber (doneOf s p i .sent) (doneOf s p i .next .call .media) out) e
-    where
-      pick : (b : Bool) (n w : ℕ) → eqb n 0 ≡ b → cond b w n ≡ 0 → (n ≡ 0) × (w ≡ 0)
-      pick true n w t h = (eqb-true n 0 t, h)
-      pick false n w t h = absurd (eqb-false n 0 t h)
-
-      go : (n w : ℕ) → cond (eqb n 0) w n ≡ 0 → (n ≡ 0) × (w ≡ 0)
-      go n w h = pick (eqb n 0) n w refl h
+  step-passed = number-passed (numberBeforeSending s p i) (doneOf s p i .sent) (doneOf s p i .next .call .media)
 
   -- the answer of a step that is not refused: what its row carries out, with the length of its line
   pub step-done : (out : List ℕ) → stepNumber s p i out ≡ 0 → stepOf s p i out ≡ movedOf (rowOf s p i) (doneOf s p i) (length (stepLine s p i))

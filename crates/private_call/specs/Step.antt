@@ -1,14 +1,13 @@
 -- A step of the private call machine: its number, its answer, and the buffer to its last byte. Assumes nothing.
 use Prim.Native.Nat.{ℕ}
-use mathlib.Core.List.{List, [], _∷_, _++_}
+use mathlib.Core.List.{List}
 use mathlib.Core.Bool.{Bool, cond, _&&_}
 use lib.ListN.{length}
 use lib.Dec.{eqb}
-use Rattle.frame.specs.Number.{firstGiven}
 use Rattle.frame.specs.Lent.{lentAfter}
 use Rattle.call.specs.Request.{requestOf}
-use Rattle.call.specs.Numbers.{testsBeforeRow}
-use Rattle.call.specs.Sending.{lineSent, sendNumber}
+use Rattle.call.specs.Numbers.{numberOfTests}
+use Rattle.call.specs.Sending.{lineSent, numberSending}
 use Rattle.call.specs.declared.Settings.{Settings}
 use Rattle.call.specs.declared.Event.{Event}
 use Rattle.call.specs.declared.Input.{Input}
@@ -28,13 +27,9 @@ use Rattle.private_call.specs.declared.Stepped.{Stepped}
 abbrev pub identifierTaken : Settings → PrivateRecord → Event → Row → Bool
 identifierTaken s p e row = eqb (rowNumber row) 1 && sameIdentifier (requestOf s e .parties) (p .call .parties)
 
--- the tests of a step before anything is sent, in their order: 7, 9, then 5 or 8, then the 8 of R1
-abbrev pub stepTests : Settings → PrivateRecord → Input → List (ℕ × Bool)
-stepTests s p i = testsBeforeRow s (wellFormed s p) i ++ ((8, identifierTaken s p (i .event) (rowOf s p i)) ∷ [])
-
--- the first of them that is given, or 0
+-- the number of the tests before anything is sent, in their order: 7, 9, then 5 or 8, then the 8 of R1
 abbrev pub numberBeforeSending : Settings → PrivateRecord → Input → ℕ
-numberBeforeSending s p i = firstGiven (stepTests s p i)
+numberBeforeSending s p i = numberOfTests s (wellFormed s p) i (identifierTaken s p (i .event) (rowOf s p i))
 
 -- what carrying out the row that is met gives
 abbrev pub doneOf : Settings → PrivateRecord → Input → Carried
@@ -46,9 +41,7 @@ stepLine s p i = lineSent (doneOf s p i .sent) (doneOf s p i .next .call .media)
 
 -- the number of a step: that of a test, else the writer's of what is sent
 abbrev pub stepNumber : Settings → PrivateRecord → Input → List ℕ → ℕ
-stepNumber s p i out =
-    cond (eqb (numberBeforeSending s p i) 0) (sendNumber (doneOf s p i .sent) (doneOf s p i .next .call .media) out)
-    (numberBeforeSending s p i)
+stepNumber s p i out = numberSending (numberBeforeSending s p i) (doneOf s p i .sent) (doneOf s p i .next .call .media) out
 
 -- ---- the answer
 

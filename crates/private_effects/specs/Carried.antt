@@ -8,6 +8,7 @@ use Rattle.frame.specs.declared.Message.{Message}
 use Rattle.frame.specs.declared.Message.the-variants.{Ringing, Accept, Reject, Release, ReleaseAck, AcceptAck}
 use Rattle.call.specs.Settings.{restricted}
 use Rattle.call.specs.Request.{asMessage, requestOf}
+use Rattle.call.specs.Timing.{isStopped, runsAfter}
 use Rattle.call.specs.declared.Counters.{Counters}
 use Rattle.call.specs.declared.Settings.{Settings}
 use Rattle.call.specs.declared.PrivateTimer.{PrivateTimer}
@@ -68,15 +69,13 @@ startedOf state to start =
       tfp7 = start .tfp7 || (changes state to && eqb (stateNumber to) 1);
     }
 
--- leaving a state stops what runs there, save a timer that the row starts anew and the one that ran out just now; a row may ask for a stop besides
+-- the timers that are stopped, by the rule for each
 unfoldable pub stoppedOf : Bool → Timers → Timers → Timers → Timers → Timers
-stoppedOf changed asked was started out =
-    setOf (λ t. has was t && ((changed || has asked t) && (not (has started t) && not (has out t))))
+stoppedOf changed asked was started out = setOf (λ t. isStopped changed (has asked t) (has was t) (has started t) (has out t))
 
--- what runs afterwards: what is started, and what ran and was neither stopped nor ran out
+-- the timers that run afterwards, by the rule for each
 unfoldable pub runningAfter : Timers → Timers → Timers → Timers → Timers
-runningAfter was stopped out started =
-    setOf (λ t. has started t || (has was t && (not (has stopped t) && not (has out t))))
+runningAfter was stopped out started = setOf (λ t. runsAfter (has was t) (has stopped t) (has out t) (has started t))
 
 -- ---- the counters
 

@@ -96,7 +96,8 @@ pub(crate) fn started(state: State, to: State, start: Timers) -> Timers
     }
 }
 
-// What stops: where the state changes or the row asks for it, what runs, is not started again and did not just run out.
+// What stops: what runs and did not just run out, where the row asks for it, or the state changes and it is not started
+// again.
 pub(crate) fn stopped(
     changed: bool,
     asked: Timers,
@@ -107,12 +108,12 @@ pub(crate) fn stopped(
     ensures { λ r. ⌜ r ≡ stoppedOf changed asked was started out ⌝ }
 {
     Timers {
-        tfp1: was.tfp1 & ((changed | asked.tfp1) & (!started.tfp1 & !out.tfp1)),
-        tfp2: was.tfp2 & ((changed | asked.tfp2) & (!started.tfp2 & !out.tfp2)),
-        tfp3: was.tfp3 & ((changed | asked.tfp3) & (!started.tfp3 & !out.tfp3)),
-        tfp4: was.tfp4 & ((changed | asked.tfp4) & (!started.tfp4 & !out.tfp4)),
-        tfp5: was.tfp5 & ((changed | asked.tfp5) & (!started.tfp5 & !out.tfp5)),
-        tfp7: was.tfp7 & ((changed | asked.tfp7) & (!started.tfp7 & !out.tfp7)),
+        tfp1: was.tfp1 & (!out.tfp1 & (asked.tfp1 | (changed & !started.tfp1))),
+        tfp2: was.tfp2 & (!out.tfp2 & (asked.tfp2 | (changed & !started.tfp2))),
+        tfp3: was.tfp3 & (!out.tfp3 & (asked.tfp3 | (changed & !started.tfp3))),
+        tfp4: was.tfp4 & (!out.tfp4 & (asked.tfp4 | (changed & !started.tfp4))),
+        tfp5: was.tfp5 & (!out.tfp5 & (asked.tfp5 | (changed & !started.tfp5))),
+        tfp7: was.tfp7 & (!out.tfp7 & (asked.tfp7 | (changed & !started.tfp7))),
     }
 }
 

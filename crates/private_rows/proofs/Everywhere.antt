@@ -1,34 +1,12 @@
 -- A test that is computed for every phase, cause and set of facts, and what it shows of each. Assumes nothing.
-use Prim.Native.Nat.{ℕ, zero, suc}
-use mathlib.Core.Path.{_≡_, refl}
+use mathlib.Core.Path.{_≡_}
 use mathlib.Core.List.{List, [], _∷_}
-use mathlib.Core.Bool.{Bool, true, false, _&&_}
-use lib.ListN.{getD}
-use Rattle.frame.proofs.Laws.{and-split}
+use mathlib.Core.Bool.{Bool, true}
 use Rattle.call.specs.declared.PrivateTimer.{PrivateTimer}
+use Rattle.call.proofs.Laws.{each, nth, bothBools, at-bool}
 use Rattle.private_rows.specs.declared.states.Phase.{Phase}
 use Rattle.private_rows.specs.declared.causes.Cause.{Cause}
 use Rattle.private_rows.specs.declared.causes.Facts.{Facts}
-
--- each of a list of tests
-abbrev pub each : List Bool → Bool
-each [] = true
-each (b ∷ bs) = b && each bs
-
--- what they show of one
-nth : (bs : List Bool) (k : ℕ) → each bs ≡ true → getD bs k true ≡ true
-nth [] k t = refl
-nth (b ∷ bs) zero t = and-split b (each bs) t .0
-nth (b ∷ bs) (suc k) t = nth bs k (and-split b (each bs) t .1)
-
--- of both Bools
-abbrev pub bothBools : (Bool → Bool) → Bool
-bothBools q = each (q true ∷ q false ∷ [])
-
--- of one
-pub at-bool : (q : Bool → Bool) → bothBools q ≡ true → (b : Bool) → q b ≡ true
-at-bool q t true = nth (q true ∷ q false ∷ []) 0 t
-at-bool q t false = nth (q true ∷ q false ∷ []) 1 t
 
 -- of every phase
 abbrev phaseTests : (Phase → Bool) → List Bool

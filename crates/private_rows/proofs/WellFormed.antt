@@ -1,8 +1,9 @@
 -- What a well-formed record is: a phase, with the timers of its table, its counters and its call. Assumes nothing.
 use mathlib.Core.Path.{_≡_, refl}
-use mathlib.Core.Bool.{Bool, true, false, cond, Bool·beq, false≢true}
+use mathlib.Core.Bool.{Bool, true, false, cond, Bool·beq}
 use Rattle.frame.proofs.Laws.{and-split}
 use Rattle.call.specs.declared.Settings.{Settings}
+use Rattle.call.proofs.Laws.{beq-same}
 use Rattle.private_rows.specs.Phases.{sameTimers, stateOf, runningOf, phaseIn}
 use Rattle.private_rows.specs.Formed.{runningGood, countersGood, callGood, wellFormed}
 use Rattle.private_rows.specs.Rows.{phaseOf}
@@ -10,13 +11,6 @@ use Rattle.private_rows.specs.declared.states.State.{State}
 use Rattle.private_rows.specs.declared.states.Phase.{Phase}
 use Rattle.private_rows.specs.declared.states.Timers.{Timers}
 use Rattle.private_rows.specs.declared.states.PrivateRecord.{PrivateRecord}
-
--- equal Bools
-beq-same : (a b : Bool) → Bool·beq a b ≡ true → a ≡ b
-beq-same true true e = refl
-beq-same true false e = absurd (false≢true e)
-beq-same false true e = absurd (false≢true e)
-beq-same false false e = refl
 
 -- sets with the same timers are equal
 pub same-timers : (a b : Timers) → sameTimers a b ≡ true → a ≡ b

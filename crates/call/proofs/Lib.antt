@@ -1,3 +1,4 @@
 pub mod Laws
 pub mod Stepping
+pub mod Answers
 pub mod Timing

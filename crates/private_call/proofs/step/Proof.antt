@@ -3,6 +3,7 @@ use mathlib.Core.Path.{_≡_, sym, ap, _∙_}
 use mathlib.Core.Bool.{Bool}
 use Rattle.call.specs.Numbers.{numberBeforeRow}
 use Rattle.call.specs.Sending.{sendTold, sendBuffer}
+use Rattle.call.proofs.Answers.{told-length}
 use Rattle.frame.specs.declared.Written.{Written}
 use Rattle.private_rows.specs.Formed.{wellFormed}
 use Rattle.private_rows.specs.Rows.{rowOf}
@@ -10,7 +11,7 @@ use Rattle.private_rows.specs.declared.rows.Row.{Row}
 use Rattle.private_effects.specs.Carried.{carryOut}
 use Rattle.private_effects.specs.declared.Carried.{Carried}
 use Rattle.private_call.specs.Step.{identifierTaken, doneOf, refusedOf}
-use Rattle.private_call.proofs.Answers.{refused-first, refused-taken, refused-sending, carried-out}
+use Rattle.private_call.proofs.Answers.{refused-first, refused-by-row, refused-sending, carried-out}
 use borrow.Author.Needs.{needs}
 use Rattle.private_call.proofs.step.Statement.{statement}
 use Rattle.private_call.proofs.step.Tie as tie
@@ -51,7 +52,7 @@ returns c = rw (c .refused .ensures, number (c .before .before)) (refused-first 
 returns-2 : tie.Need-returns-2
 returns-2 c =
     let d = c .before .before in
-    rw (c .refused2 .ensures) (refused-taken _ _ _ _ (sym (number (d .before .before .before)) ∙ d .before .before .if1 .left) (sym (taken d) ∙ c .before .if2 .taken))
+    rw (c .refused2 .ensures) (refused-by-row _ _ _ _ (sym (number (d .before .before .before)) ∙ d .before .before .if1 .left) (sym (taken d) ∙ c .before .if2 .taken))
 
 returns-3 : tie.Need-returns-3
 returns-3 c =
@@ -66,8 +67,9 @@ returns-4 c =
     let w = c .before .before .before .before .before in
     let d = w .before .before .before .before .before in
     let n = sent w in
-    let r = carried-out _ _ _ _ (sym (number (d .before .before .before)) ∙ d .before .before .if1 .left) (sym (taken d) ∙ w .before .before .before .before .if2 .left) (ap (λ (x : Written). x .number) (sym (n .0)) ∙ c .before .if3 .left) in
-    (rw (c .moved .ensures, done (w .before .before .before), d .before .row-of .ensures, n .0) (r .0), n .1 ∙ r .1)
+    let z = ap (λ (x : Written). x .number) (sym (n .0)) ∙ c .before .if3 .left in
+    let r = carried-out _ _ _ _ (sym (number (d .before .before .before)) ∙ d .before .before .if1 .left) (sym (taken d) ∙ w .before .before .before .before .if2 .left) z in
+    (rw (c .moved .ensures, done (w .before .before .before), d .before .row-of .ensures, n .0, told-length _ _ _ z) (r .0), n .1 ∙ r .1)
 
 pub step-spec : {M : Type 1} → statement M
 step-spec =

@@ -1,0 +1,65 @@
+-- The cases of a step: refused by a test, refused by G9, refused by the writer, carried out. Assumes nothing.
+use Prim.Native.Nat.{ℕ}
+use mathlib.Core.Path.{_≡_}
+use mathlib.Core.List.{List}
+use mathlib.Core.Bool.{Bool, true, false}
+use lib.ListN.{length}
+use Rattle.call.specs.Numbers.{numberBeforeRow}
+use Rattle.call.specs.Sending.{sendNumber, sendBuffer}
+use Rattle.call.specs.declared.Settings.{Settings}
+use Rattle.call.specs.declared.Input.{Input}
+use Rattle.call.proofs.Answers as answers
+use Rattle.group_call.specs.Formed.{wellFormed}
+use Rattle.group_call.specs.Rows.{rowOf}
+use Rattle.group_call.specs.declared.states.GroupRecord.{GroupRecord}
+use Rattle.group_call.specs.Step.{changeTooEarly, doneOf, stepLine, refusedOf, movedOf, stepOf, stepBuffer}
+use Rattle.group_call.specs.declared.Stepped.{Stepped}
+
+module _ (s : Settings) (g : GroupRecord) (i : Input) (out : List ℕ) where
+  -- the number before a row is looked for
+  abbrev before : ℕ
+  before = numberBeforeRow s (wellFormed s g) i
+
+  -- the 8 of G9
+  abbrev early : Bool
+  early = changeTooEarly s g (i .event) (rowOf s g (i .event))
+
+  -- the writer's number
+  abbrev writers : ℕ
+  writers = sendNumber (doneOf s g i .sent) (doneOf s g i .next .media) out
+
+  -- what the writer leaves
+  abbrev left : List ℕ
+  left = sendBuffer (doneOf s g i .sent) (doneOf s g i .next .media) out
+
+  -- the answer of a step that is carried out
+  abbrev moved : Stepped
+  moved = movedOf (rowOf s g (i .event)) (doneOf s g i) (length (stepLine s g i))
+
+  -- an answer and a buffer are those of the step
+  abbrev pub Answers : Stepped → List ℕ → Type 0
+  Answers r after = (r ≡ stepOf s g i out) × (after ≡ stepBuffer s g i out)
+
+  -- refused before a row is looked for
+  pub refused-first : (before ≡ 0 → ⊥) → Answers (refusedOf before g) out
+  unfolding stepOf stepBuffer
+  refused-first =
+      answers.refused-first s (wellFormed s g) i early (doneOf s g i .sent) (doneOf s g i .next .media) out (λ n. refusedOf n g) moved
+
+  -- refused by G9
+  pub refused-by-row : before ≡ 0 → early ≡ true → Answers (refusedOf 8 g) out
+  unfolding stepOf stepBuffer
+  refused-by-row =
+      answers.refused-by-row s (wellFormed s g) i early (doneOf s g i .sent) (doneOf s g i .next .media) out (λ n. refusedOf n g) moved
+
+  -- refused by the writer
+  pub refused-sending : before ≡ 0 → early ≡ false → (writers ≡ 0 → ⊥) → Answers (refusedOf writers g) left
+  unfolding stepOf stepBuffer
+  refused-sending =
+      answers.refused-sending s (wellFormed s g) i early (doneOf s g i .sent) (doneOf s g i .next .media) out (λ n. refusedOf n g) moved
+
+  -- carried out
+  pub carried-out : before ≡ 0 → early ≡ false → writers ≡ 0 → Answers moved left
+  unfolding stepOf stepBuffer
+  carried-out =
+      answers.carried-out s (wellFormed s g) i early (doneOf s g i .sent) (doneOf s g i .next .media) out (λ n. refusedOf n g) moved

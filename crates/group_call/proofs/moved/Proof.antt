@@ -1,0 +1,11 @@
+-- `group_call::moved` meets its contract: what is known at each return gives the case. Assumes nothing.
+use borrow.Author.Needs.{needs}
+use Rattle.group_call.proofs.moved.Statement.{statement}
+use Rattle.group_call.proofs.moved.Tie as tie
+
+pub moved-spec : {M : Type 1} → statement M
+moved-spec =
+    tie.close
+    (tie.spec
+    (λ c κs. search needs)
+    (λ c. rw (c .row-number .ensures)))

@@ -1,0 +1,102 @@
+// The group call machine: one step.
+mod causes;
+mod effects;
+mod formed;
+mod rows;
+mod settled;
+pub mod states;
+
+ghost use mathlib.Core.Path.{_≡_};
+ghost use Rattle.group_call.specs.Step.{changeTooEarly, refusedOf, movedOf, stepOf, stepBuffer};
+use crate::causes::later;
+use crate::formed::well_formed;
+use crate::rows::Row;
+use crate::rows::row_number;
+use crate::rows::row_of;
+use crate::settled::Carried;
+use crate::settled::carry_out;
+use crate::states::GroupRecord;
+use crate::states::Timers;
+use call::Event;
+use call::Input;
+use call::Settings;
+use call::announced_of;
+use call::number_before_row;
+use call::write_sent;
+use frame::Written;
+
+// What a step answers. A number other than 0 refuses; row 0 is none; `stop` comes ahead of `start`; the line of this
+// length stands at the front of the buffer.
+pub struct Stepped {
+    pub number: u8,
+    pub row: u8,
+    pub next: GroupRecord,
+    pub stop: Timers,
+    pub start: Timers,
+    pub length: usize,
+}
+
+// A refusal: the record as it was, no row, no timers, no line.
+fn refused(number: u8, stored: GroupRecord) -> Stepped
+    ensures { λ r. ⌜ r ≡ refusedOf number stored ⌝ }
+{
+    Stepped {
+        number: number,
+        row: 0,
+        next: stored,
+        stop: Timers::NONE,
+        start: Timers::NONE,
+        length: 0,
+    }
+}
+
+// The row is G9, and now is not later than the stored change.
+fn change_too_early(settings: Settings, stored: GroupRecord, event: Event, row: Row) -> bool
+    ensures { λ r. ⌜ r ≡ changeTooEarly settings stored event row ⌝ }
+{
+    let held = stored.call;
+    let announced = announced_of(settings, event);
+    let brought = announced.call;
+    (row_number(row) == 9) & !later(brought, held)
+}
+
+// A step that was carried out, with the length of its line.
+fn moved(row: Row, done: Carried, written: Written) -> Stepped
+    ensures { λ r. ⌜ r ≡ movedOf row done (written .length) ⌝ }
+{
+    let next = done.next;
+    let stop = done.stop;
+    let start = done.start;
+    Stepped {
+        number: 0,
+        row: row_number(row),
+        next: next,
+        stop: stop,
+        start: start,
+        length: written.length,
+    }
+}
+
+// A step of the group call machine.
+pub fn step(settings: Settings, stored: GroupRecord, input: Input, out: &mut [u8]) -> Stepped
+    ensures { λ r. ⌜ r ≡ stepOf settings stored input (now (out .entry)) ⌝ }
+    ensures { λ _. ⌜ now (out .exit) ≡ stepBuffer settings stored input (now (out .entry)) ⌝ }
+{
+    let number = number_before_row(settings, well_formed(settings, stored), input);
+    if number != 0 {
+        return refused(number, stored);
+    }
+    let event = input.event;
+    let row = row_of(settings, stored, event);
+    if change_too_early(settings, stored, event, row) {
+        return refused(8, stored);
+    }
+    let done = carry_out(settings, stored, input, row);
+    let sent = done.sent;
+    let media = done.next.media;
+    let written = write_sent(sent, media, out);
+    if written.number != 0 {
+        return refused(written.number, stored);
+    }
+    moved(row, done, written)
+}

@@ -6,7 +6,7 @@ use mathlib.Core.Bool.{Bool, true, false, cond}
 use native.Mathlib.Omega.{arith}
 use lib.ListN.{length}
 use lib.Dec.{eqb}
-use borrow.Author.Tests.{eq-eqb, ne-eqb}
+use borrow.Author.Tests.{eq-eqb, ne-eqb, eqb-true, eqb-false}
 use Rattle.frame.specs.Lent.{lentAfter}
 use Rattle.frame.specs.declared.Media.{Media}
 use Rattle.call.specs.Numbers.{numberBeforeRow, numberOfTests}
@@ -15,6 +15,15 @@ use Rattle.call.specs.declared.Settings.{Settings}
 use Rattle.call.specs.declared.Input.{Input}
 use Rattle.call.specs.declared.Send.{Send}
 use Rattle.call.proofs.Stepping.{tests-parts}
+
+-- what holds of an answer that is carried out and of one that refuses holds of the answer
+pub by-cases : {A : Type 0} (n : ℕ) (moved : A) (refused : ℕ → A) (P : A → Type 0) → (n ≡ 0 → P moved) → ((n ≡ 0 → ⊥) → P (refused n))
+    → P (cond (eqb n 0) moved (refused n))
+by-cases n moved refused P f g = go (eqb n 0) refl
+  where
+    go : (b : Bool) → eqb n 0 ≡ b → P (cond b moved (refused n))
+    go true t = f (eqb-true n 0 t)
+    go false t = g (eqb-false n 0 t)
 
 -- the length told of what is written
 pub told-length : (sent : Send) (media : Media) (out : List ℕ) → sendNumber sent media out ≡ 0 → sendTold sent media out .length ≡ length (lineSent sent media)

@@ -1,0 +1,28 @@
+-- `chooser::line_announced` meets its contract: what the line reads as gives the case. Assumes nothing.
+use mathlib.Core.Path.{sym, ap, _∙_}
+use Rattle.frame.specs.declared.Reading.{Reading}
+use Rattle.chooser.specs.Choice.{announcedIn}
+use borrow.Author.Needs.{needs}
+use Rattle.chooser.proofs.line_announced.Statement.{statement}
+use Rattle.chooser.proofs.line_announced.Tie as tie
+
+returns : tie.Need-returns
+returns c =
+    c .announced-by .ensures
+    ∙ (sym (ap announcedIn (c .before .before .read .given .1))
+    ∙ ap (λ (r : Reading). announcedIn (r .read)) (c .before .before .before .before .read-line .ensures))
+
+returns-2 : tie.Need-returns-2
+returns-2 c =
+    sym (ap announcedIn (c .enum-told .given .1)) ∙ ap (λ (r : Reading). announcedIn (r .read)) (c .before .before .read-line .ensures)
+
+pub line-announced-spec : {M : Type 1} → statement M
+line-announced-spec =
+    tie.close
+    (tie.spec
+    (λ c κs. search needs)
+    (λ c. search needs)
+    (λ c κs. search needs)
+    (λ c. search needs)
+    returns
+    returns-2)

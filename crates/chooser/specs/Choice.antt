@@ -1,0 +1,91 @@
+-- Which of two announcement lines is chosen, and the number of the question. Assumes nothing.
+use Prim.Native.Nat.{ℕ}
+use mathlib.Core.List.{List, [], _∷_}
+use mathlib.Core.Bool.{Bool, false, not, cond, _&&_}
+use lib.Dec.{eqb}
+use denote.Ref.{RefT}
+use Rattle.frame.specs.Number.{firstGiven}
+use Rattle.frame.specs.Line.{lineNumber, lineMessage}
+use Rattle.frame.specs.declared.GroupCall.{GroupCall}
+use Rattle.frame.specs.declared.Message.{Message}
+use Rattle.frame.specs.declared.Message.the-variants.{SetupRequest, Ringing, Accept, Reject, Release, ReleaseAck, AcceptAck, Announcement, GroupAccept}
+use Rattle.frame.specs.declared.Read.{Read}
+use Rattle.frame.specs.declared.Read.the-variants.{Readable, Refused}
+use Rattle.group_order.specs.Order.{isBetter}
+use Rattle.chooser.specs.declared.Announced.{Announced}
+use Rattle.chooser.specs.declared.Announced.the-variants.{Call, Nothing}
+
+-- ---- what a line announces
+
+-- an announcement, kind 08, announces its call; any other message nothing
+abbrev pub announcedBy : Message → Announced
+announcedBy (SetupRequest p s) = Nothing
+announcedBy (Ringing p) = Nothing
+announcedBy (Accept p) = Nothing
+announcedBy (Reject p reason) = Nothing
+announcedBy (Release p) = Nothing
+announcedBy (ReleaseAck p) = Nothing
+announcedBy (AcceptAck p) = Nothing
+announcedBy (Announcement call confirm) = Call call
+announcedBy (GroupAccept a) = Nothing
+
+-- a line that is refused announces nothing
+abbrev pub announcedIn : Read → Announced
+announcedIn (Readable m) = announcedBy m
+announcedIn (Refused n) = Nothing
+
+-- what a line announces
+abbrev pub lineAnnounced : List ℕ → Announced
+lineAnnounced l = announcedIn (lineMessage l)
+
+-- ---- between what one can choose
+
+-- two calls: their group is the same, and their identifiers differ
+abbrev pub callsChoosable : GroupCall → GroupCall → Bool
+callsChoosable a b = eqb (a .group) (b .group) && not (eqb (a .identifier) (b .identifier))
+
+-- two messages: both are announcements, and one can choose between their calls
+abbrev pub choosable : Announced → Announced → Bool
+choosable (Call a) (Call b) = callsChoosable a b
+choosable (Call a) Nothing = false
+choosable Nothing b = false
+
+-- two lines: one can choose between their messages
+abbrev pub linesChoosable : List ℕ → List ℕ → Bool
+linesChoosable first second = choosable (lineAnnounced first) (lineAnnounced second)
+
+-- ---- the choice: 1 is the first, 2 the second, 0 neither
+
+-- of two calls the first where it is better, else the second
+abbrev pub callsChoice : GroupCall → GroupCall → ℕ
+callsChoice a b = cond (callsChoosable a b) (cond (isBetter a b) 1 2) 0
+
+-- of two messages the one whose call is chosen
+abbrev pub choiceBetween : Announced → Announced → ℕ
+choiceBetween (Call a) (Call b) = callsChoice a b
+choiceBetween (Call a) Nothing = 0
+choiceBetween Nothing b = 0
+
+-- of two lines the one whose message is chosen
+unfoldable pub choiceOf : List ℕ → List ℕ → ℕ
+choiceOf first second = choiceBetween (lineAnnounced first) (lineAnnounced second)
+
+-- ---- the number of the question
+
+-- the first line's number where it is not 0, else the second's where it is not 0, else 10 where one cannot choose, else 0
+abbrev pub numberBetween : ℕ → ℕ → Bool → ℕ
+numberBetween first second good = firstGiven ((first, not (eqb first 0)) ∷ (second, not (eqb second 0)) ∷ (10, not good) ∷ [])
+
+-- so it is of two lines
+unfoldable pub choiceNumber : List ℕ → List ℕ → ℕ
+choiceNumber first second = numberBetween (lineNumber first) (lineNumber second) (linesChoosable first second)
+
+-- ---- the line handed back
+
+-- where a lent line lies, and its bytes: two slices with one place are one slice, and no copy
+abbrev pub place : RefT (List ℕ) → (ℕ × ℕ) × List ℕ
+place r = (r .ptr, r .now)
+
+-- the first line itself, the second itself, or the empty part at the front of the first
+abbrev pub placeOf : ℕ → RefT (List ℕ) → RefT (List ℕ) → (ℕ × ℕ) × List ℕ
+placeOf choice first second = cond (eqb choice 1) (place first) (cond (eqb choice 2) (place second) (first .ptr, []))

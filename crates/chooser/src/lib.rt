@@ -1,0 +1,106 @@
+// The chooser: of two lent announcement lines the one whose call is better, itself and no copy.
+ghost use mathlib.Core.Path.{_≡_};
+ghost use Rattle.chooser.specs.Choice.{announcedBy, lineAnnounced, callsChoice, choiceOf, choiceNumber};
+ghost use Rattle.chooser.specs.Choice.{place, placeOf};
+use frame::GroupCall;
+use frame::Message;
+use frame::Read;
+
+// What a line announces: a group call, or nothing.
+enum Announced {
+    Call(GroupCall),
+    Nothing,
+}
+
+// The call that a message announces, if it is an announcement.
+fn announced_by(message: Message) -> Announced
+    ensures { λ r. ⌜ r ≡ announcedBy message ⌝ }
+{
+    match message {
+        Message::SetupRequest(_, _) => Announced::Nothing,
+        Message::Ringing(_) => Announced::Nothing,
+        Message::Accept(_) => Announced::Nothing,
+        Message::Reject(_, _) => Announced::Nothing,
+        Message::Release(_) => Announced::Nothing,
+        Message::ReleaseAck(_) => Announced::Nothing,
+        Message::AcceptAck(_) => Announced::Nothing,
+        Message::Announcement(call, _) => Announced::Call(call),
+        Message::GroupAccept(_) => Announced::Nothing,
+    }
+}
+
+// The call that a line announces, if the line is readable and an announcement.
+fn line_announced(line: &[u8]) -> Announced
+    ensures { λ r. ⌜ r ≡ lineAnnounced (now (line .entry)) ⌝ }
+{
+    let reading = frame::read_line(line);
+    let read = reading.read;
+    match read {
+        Read::Readable(message) => announced_by(message),
+        Read::Refused(_) => Announced::Nothing,
+    }
+}
+
+// Which of two calls is chosen: 1 the first, 2 the second, 0 neither.
+fn calls_choice(first: GroupCall, second: GroupCall) -> u8
+    ensures { λ r. ⌜ r ≡ callsChoice first second ⌝ }
+{
+    let same_group = first.group == second.group;
+    let same_identifier = first.identifier == second.identifier;
+    if same_group & !same_identifier {
+        if group_order::better(first, second) {
+            return 1;
+        }
+        return 2;
+    }
+    0
+}
+
+// Which of two lines is chosen: 1 the first, 2 the second, 0 neither.
+fn choice(first: &[u8], second: &[u8]) -> u8
+    ensures { λ r. ⌜ r ≡ choiceOf (now (first .entry)) (now (second .entry)) ⌝ }
+{
+    let one = line_announced(first);
+    let other = line_announced(second);
+    match one {
+        Announced::Call(call) => match other {
+            Announced::Call(other_call) => calls_choice(call, other_call),
+            Announced::Nothing => 0,
+        },
+        Announced::Nothing => 0,
+    }
+}
+
+// The number of the question which of two lines is chosen: that of the first line, else that of the second, else 10
+// where a line is no announcement, the groups differ or the identifiers are equal, else 0.
+pub fn choose_number(first: &[u8], second: &[u8]) -> u8
+    ensures { λ r. ⌜ r ≡ choiceNumber (now (first .entry)) (now (second .entry)) ⌝ }
+{
+    let number = frame::check_line(first);
+    if number != 0 {
+        return number;
+    }
+    let next = frame::check_line(second);
+    if next != 0 {
+        return next;
+    }
+    if choice(first, second) == 0 {
+        return 10;
+    }
+    0
+}
+
+// The line of the better call, itself and no copy; where the number is not 0, the empty part at the front of the first.
+pub fn choose<'a>(first: &'a [u8], second: &'a [u8]) -> &'a [u8]
+    ensures { λ r. ⌜ place r
+        ≡ placeOf (choiceOf (now (first .entry)) (now (second .entry))) (first .entry) (second .entry) ⌝ }
+{
+    let chosen = choice(first, second);
+    if chosen == 1 {
+        return first;
+    }
+    if chosen == 2 {
+        return second;
+    }
+    &first[..0]
+}

@@ -5,3 +5,8 @@ pub mod Holding
 pub mod Brought
 pub mod Settling
 pub mod Keeping
+pub mod Discarding
+pub mod Steps
+pub mod GeneralRules
+pub mod Merging
+pub mod NoMixture

@@ -6,3 +6,4 @@ pub mod Found
 pub mod Effects
 pub mod Carried
 pub mod Step
+pub mod Hearing

@@ -120,3 +120,19 @@ either-way a b f = go (isBetter a b) refl
         other : (y : Bool) → isBetter b a ≡ y → y ≡ true
         other true q = refl
         other false q = absurd (f (same-identifier a b p q))
+
+-- ---- what decides
+
+-- the better rank decides, whatever start and identifier are
+pub by-rank : (a b : GroupCall) → rankOf (a .«call_type») < rankOf (b .«call_type») → isBetter a b ≡ true
+by-rank a b h = rw (lt-ltb (ranks a) (ranks b) h) refl
+
+-- at equal rank the earlier start decides, whatever the identifier is
+pub by-start : (a b : GroupCall) → rankOf (a .«call_type») ≡ rankOf (b .«call_type») → a .start < b .start → isBetter a b ≡ true
+by-start a b r h = holds-first (ranks a) (ranks b) (sooner a b) (omega (arith, r)) (λ x. rw (lt-ltb (a .start) (b .start) h) refl)
+
+-- at equal rank and start the lower identifier decides
+pub by-identifier : (a b : GroupCall) → rankOf (a .«call_type») ≡ rankOf (b .«call_type») → a .start ≡ b .start → a .identifier < b .identifier → isBetter a b ≡ true
+by-identifier a b r s h =
+    holds-first (ranks a) (ranks b) (sooner a b) (omega (arith, r))
+    (λ x. holds-first (a .start) (b .start) (lower a b) (omega (arith, s)) (λ y. lt-ltb (a .identifier) (b .identifier) h))

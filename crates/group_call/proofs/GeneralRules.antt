@@ -1,0 +1,62 @@
+-- The rules that hold for all rows, of the answer of a step that is not refused. Assumes nothing.
+use Prim.Native.Nat.{ℕ}
+use mathlib.Core.Path.{_≡_, refl, sym, _∙_, subst}
+use mathlib.Core.List.{List}
+use mathlib.Core.Bool.{Bool, true, false}
+use lib.Dec.{eqb}
+use Rattle.call.specs.Announced.{announcedOf}
+use Rattle.call.specs.Timing.{isStopped}
+use Rattle.call.specs.declared.Settings.{Settings}
+use Rattle.call.specs.declared.GroupTimer.{GroupTimer}
+use Rattle.call.specs.declared.Input.{Input}
+use Rattle.call.proofs.Timing.{change-stops-one, spares-one}
+use Rattle.group_call.specs.States.{has}
+use Rattle.group_call.specs.Rows.{rowOf}
+use Rattle.group_call.specs.Effects.{effectOf}
+use Rattle.group_call.specs.Carried.{ranOut, changes, stoppedOf, carryOut}
+use Rattle.group_call.specs.Step.{doneOf, stepNumber, stepOf}
+use Rattle.group_call.specs.declared.states.Timers.{Timers}
+use Rattle.group_call.specs.declared.states.GroupRecord.{GroupRecord}
+use Rattle.group_call.specs.declared.effects.Effect.{Effect}
+use Rattle.group_call.specs.declared.Stepped.{Stepped}
+use Rattle.group_call.proofs.Steps.{step-done}
+
+-- whether a timer is stopped
+stopped-one : (changed : Bool) (asked was started out : Timers) (t : GroupTimer)
+    → has (stoppedOf changed asked was started out) t ≡ isStopped changed (has asked t) (has was t) (has started t) (has out t)
+unfolding stoppedOf
+stopped-one changed asked was started out GroupTimer.Tfg2 = refl
+stopped-one changed asked was started out GroupTimer.Tfg4 = refl
+stopped-one changed asked was started out GroupTimer.Tfg6 = refl
+
+module _ (s : Settings) (g : GroupRecord) (i : Input) where
+  -- what the row that is met does
+  abbrev effect : Effect
+  effect = effectOf (rowOf s g (i .event)) (g .state) (eqb (announcedOf s (i .event) .confirm) 1)
+
+  -- leaving a state stops each timer that runs there, if the row does not start it anew
+  change-stops : (t : GroupTimer) → changes (g .state) (doneOf s g i .next .state) ≡ true → has (g .running) t ≡ true
+      → has (doneOf s g i .start) t ≡ false → has (ranOut (i .event)) t ≡ false → has (doneOf s g i .stop) t ≡ true
+  unfolding carryOut
+  change-stops t a b c d =
+      stopped-one (changes (g .state) (effect .to)) (effect .stop) (g .running) (effect .start) (ranOut (i .event)) t
+      ∙ change-stops-one (changes (g .state) (effect .to)) (has (effect .stop) t) (has (g .running) t) (has (effect .start) t) (has (ranOut (i .event)) t) a b c d
+
+  -- no step stops the timer whose expiry it is about
+  spares-ran-out : (t : GroupTimer) → has (ranOut (i .event)) t ≡ true → has (doneOf s g i .stop) t ≡ false
+  unfolding carryOut
+  spares-ran-out t e =
+      stopped-one (changes (g .state) (effect .to)) (effect .stop) (g .running) (effect .start) (ranOut (i .event)) t
+      ∙ spares-one (changes (g .state) (effect .to)) (has (effect .stop) t) (has (g .running) t) (has (effect .start) t) (has (ranOut (i .event)) t) e
+
+  -- leaving a state stops each timer that runs there, if the row does not start it anew
+  pub step-change-stops : (out : List ℕ) → stepNumber s g i out ≡ 0 → (t : GroupTimer) → changes (g .state) (stepOf s g i out .next .state) ≡ true
+      → has (g .running) t ≡ true → has (stepOf s g i out .start) t ≡ false → has (ranOut (i .event)) t ≡ false → has (stepOf s g i out .stop) t ≡ true
+  step-change-stops out e t =
+      subst (λ (r : Stepped). changes (g .state) (r .next .state) ≡ true → has (g .running) t ≡ true → has (r .start) t ≡ false
+      → has (ranOut (i .event)) t ≡ false → has (r .stop) t ≡ true) (sym (step-done s g i out e .0)) (change-stops t)
+
+  -- no step stops the timer whose expiry it is about
+  pub step-spares-ran-out : (out : List ℕ) → stepNumber s g i out ≡ 0 → (t : GroupTimer) → has (ranOut (i .event)) t ≡ true → has (stepOf s g i out .stop) t ≡ false
+  step-spares-ran-out out e t =
+      subst (λ (r : Stepped). has (ranOut (i .event)) t ≡ true → has (r .stop) t ≡ false) (sym (step-done s g i out e .0)) (spares-ran-out t)

@@ -1,0 +1,19 @@
+-- A cab in an ongoing call, and what it hears. Assumes nothing.
+use Prim.Native.Nat.{ℕ}
+use Rattle.frame.specs.declared.Media.{Media}
+use Rattle.frame.specs.declared.GroupCall.{GroupCall}
+use Rattle.frame.specs.declared.Message.the-variants.{Announcement}
+use Rattle.call.specs.declared.Verdicts.{Verdicts}
+use Rattle.call.specs.declared.Event.{Event}
+use Rattle.call.specs.declared.Input.{Input}
+use Rattle.group_call.specs.States.{tfg2And6}
+use Rattle.group_call.specs.declared.states.State.{State}
+use Rattle.group_call.specs.declared.states.GroupRecord.{GroupRecord}
+
+-- a record in S3 that holds this call
+abbrev pub ongoing : GroupCall → Media → GroupRecord
+ongoing call media = record { state = State.S3; running = tfg2And6; call = call; media = media }
+
+-- an announcement is heard, with any verdicts beside it
+abbrev pub hears : GroupCall → ℕ → Media → Verdicts → Input
+hears call confirm media v = record { event = Event.Message (Announcement call confirm); media = media; verdicts = v }

@@ -17,7 +17,8 @@ use Rattle.chooser.specs.Choice.{lineAnnounced, choosable, linesChoosabl
 use Rattle.chooser.specs.declared.Announced.{Announced}
 use Rattle.chooser.specs.declared.Announced.the-variants.{Call, Nothing}
 use Rattle.chooser.proofs.Laws.{neither-line, one-line, choosable-calls, exchanged, choosable-turned, choice-turned}
-use Rattle.chooser.proofs.Lines.{Announces, NoChoice, line-announces, announced-number, no-choice}
+use Rattle.chooser.specs.NoChoice.{Announces, NoChoice}
+use Rattle.chooser.proofs.Lines.{line-announces, announced-number, no-choice}
 
 -- ---- the number
 

@@ -14,29 +14,9 @@ use Rattle.frame.specs.declared.Read.{Read}
 use Rattle.frame.specs.declared.Read.the-variants.{Readable, Refused}
 use Rattle.frame.proofs.OnlyLine.{number-read}
 use Rattle.chooser.specs.Choice.{announcedBy, announcedIn, lineAnnounced, callsChoosable, choosable, linesChoosable}
+use Rattle.chooser.specs.NoChoice.{Announces, NoAnnouncement, Apart, NoChoice}
 use Rattle.chooser.specs.declared.Announced.{Announced}
 use Rattle.chooser.specs.declared.Announced.the-variants.{Call, Nothing}
-
--- ---- announcements and what keeps two of them from a choice
-
--- the line reads as the announcement of a call
-abbrev pub Announces : List ℕ → GroupCall → Type 0
-Announces l call = (confirm : ℕ) × (lineMessage l ≡ Readable (Announcement call confirm))
-
--- the line is no announcement
-abbrev pub NoAnnouncement : List ℕ → Type 0
-NoAnnouncement l = (call : GroupCall) → Announces l call → ⊥
-
--- the groups of two calls differ, or their identifiers are equal
-abbrev pub Apart : GroupCall → GroupCall → Type 0
-Apart a b = (a .group ≡ b .group → ⊥) ⊎ (a .identifier ≡ b .identifier)
-
--- what the number 10 says: a line is no announcement, the groups differ, or the identifiers are equal
-abbrev pub NoChoice : List ℕ → List ℕ → Type 0
-NoChoice first second =
-    NoAnnouncement first
-    ⊎ (NoAnnouncement second
-    ⊎ ((a : GroupCall) × (b : GroupCall) × Announces first a × Announces second b × Apart a b))
 
 -- ---- what a line announces
 

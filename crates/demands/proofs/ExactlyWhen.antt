@@ -9,6 +9,7 @@ use native.Mathlib.Omega.{arith}
 use lib.ListN.{length, take, getD}
 use lib.Dec.{ltb, leb, eqb}
 use borrow.Author.Tests.{not-true, eq-eqb}
+use Rattle.frame.specs.Number.{firstGiven}
 use Rattle.frame.specs.Digits.{isDigit, allDigits}
 use Rattle.frame.specs.Range.{within}
 use Rattle.frame.specs.Frame.{inRange}
@@ -24,18 +25,18 @@ use Rattle.call.specs.Request.{requestOf}
 use Rattle.call.specs.Numbers.{heardGood, argumentsGood}
 use Rattle.call.specs.declared.Settings.{Settings}
 use Rattle.call.specs.declared.Input.{Input}
-use Rattle.private_rows.specs.Formed.{wellFormed}
 use Rattle.private_rows.specs.Causes.{sameIdentifier}
 use Rattle.private_rows.specs.Rows.{rowNumber, rowOf}
 use Rattle.private_rows.specs.declared.states.PrivateRecord.{PrivateRecord}
 use Rattle.private_rows.specs.declared.rows.Row.the-variants.{R1}
 use Rattle.private_rows.proofs.Meets.{same-row}
-use Rattle.private_call.specs.Step.{identifierTaken, stepLine, stepOf}
+use Rattle.private_call.specs.Step.{identifierTaken}
 use Rattle.private_call.proofs.Steps.{number-told}
 use Rattle.private_call.proofs.NumberTable.{step-number}
 use Rattle.demands.specs.ExactlyWhen.{ExactlyWhen, IsDigit, Unended, Undigital, Unkind, Misfit, Unranged, lineTable, writeTable, answerTable}
-use Rattle.demands.specs.ExactlyWhen.{SettingOut, Unformed, FieldOut, ArgumentOut, IdentifierStored, StepRoomless, stepTable}
+use Rattle.demands.specs.ExactlyWhen.{SettingOut, Unformed, FieldOut, ArgumentOut, StepRoomless, stepTable, StepExactlyWhen}
 use Rattle.demands.specs.Totals.{totals}
+use Rattle.demands.specs.Machines.{Machine, lineToSend, IdentifierStored, privateMachine}
 use Rattle.demands.proofs.Totals.{digits-total}
 use Rattle.demands.proofs.Reflects.{Reflects, true-reflects, leb-reflects, ltb-reflects, eqb-reflects, not-reflects, and-reflects, or-reflects}
 use Rattle.demands.proofs.Tables.{Row, Right, table-exactly}
@@ -135,13 +136,6 @@ taken-reflects s p i =
     and-reflects (eqb (rowNumber (rowOf s p i)) 1) (sameIdentifier (requestOf s (i .event) .parties) (p .call .parties)) (first-reflects s p i)
     (eqb-reflects (requestOf s (i .event) .parties .identifier) (p .call .parties .identifier))
 
--- 8
-argument-reflects : (s : Settings) (p : PrivateRecord) (i : Input)
-    → Reflects (not (argumentsGood s (i .event) (i .media)) || identifierTaken s p (i .event) (rowOf s p i)) (ArgumentOut s i ⊎ IdentifierStored s p i)
-argument-reflects s p i =
-    or-reflects (not (argumentsGood s (i .event) (i .media))) (identifierTaken s p (i .event) (rowOf s p i))
-    (false-reflects (argumentsGood s (i .event) (i .media))) (taken-reflects s p i)
-
 -- ---- the theorems
 
 -- the reader: 1 to 5
@@ -182,18 +176,38 @@ answer-exactly-when log out = table-exactly rows refl right
     right : Right (Unit {0}) rows
     right = (λ b. ltb-reflects (length out) (length (answerOf log)), tt)
 
--- a step of the private call machine: 7, 9, then 5 or 8, then 6
-pub step-exactly-when : (s : Settings) (p : PrivateRecord) (i : Input) (out : List ℕ) → ExactlyWhen (stepOf s p i out .number) (Unit {0}) (stepTable s p i out)
-step-exactly-when s p i out =
-    subst (λ (n : ℕ). ExactlyWhen n (Unit {0}) (stepTable s p i out)) (sym (number-told s p i out ∙ step-number s p i out)) (table-exactly rows refl right)
+-- ---- a step: 7, 9, then 5 or 8, then 6
+
+-- its tests in their order, by whether the row refuses
+abbrev pub machineTests : (M : Machine) → Settings → M .Stored → Input → List ℕ → Bool → List (ℕ × Bool)
+machineTests M s p i out refused =
+    (7, not (settingsGood s)) ∷ (9, not (M .wellFormed s p)) ∷ (5, not (heardGood (i .event) (i .media)))
+    ∷ (8, not (argumentsGood s (i .event) (i .media)) || refused) ∷ (6, ltb (length out) (length (lineToSend M s p i))) ∷ []
+
+-- a machine whose number is the first of these tests that is given, with a test of whether the row refuses
+pub machine-exactly-when : (M : Machine) (refused : Settings → M .Stored → Input → Bool)
+    → ((s : Settings) (p : M .Stored) (i : Input) → Reflects (refused s p i) (M .RefusedByRow s p i))
+    → ((s : Settings) (p : M .Stored) (i : Input) (out : List ℕ) → M .step s p i out .number ≡ firstGiven (machineTests M s p i out (refused s p i)))
+    → StepExactlyWhen M
+machine-exactly-when M refused stands told s p i out =
+    subst (λ (n : ℕ). ExactlyWhen n (Unit {0}) (stepTable M s p i out)) (sym (told s p i out)) (table-exactly rows refl right)
   where
     rows : List Row
     rows =
-        (7, not (settingsGood s), SettingOut s) ∷ (9, not (wellFormed s p), Unformed s p)
+        (7, not (settingsGood s), SettingOut s) ∷ (9, not (M .wellFormed s p), Unformed M s p)
         ∷ (5, not (heardGood (i .event) (i .media)), FieldOut i)
-        ∷ (8, not (argumentsGood s (i .event) (i .media)) || identifierTaken s p (i .event) (rowOf s p i), ArgumentOut s i ⊎ IdentifierStored s p i)
-        ∷ (6, ltb (length out) (length (stepLine s p i)), StepRoomless s p i out) ∷ []
+        ∷ (8, not (argumentsGood s (i .event) (i .media)) || refused s p i, ArgumentOut s i ⊎ M .RefusedByRow s p i)
+        ∷ (6, ltb (length out) (length (lineToSend M s p i)), StepRoomless M s p i out) ∷ []
+
+    argument : Reflects (not (argumentsGood s (i .event) (i .media)) || refused s p i) (ArgumentOut s i ⊎ M .RefusedByRow s p i)
+    argument = or-reflects (not (argumentsGood s (i .event) (i .media))) (refused s p i) (false-reflects (argumentsGood s (i .event) (i .media))) (stands s p i)
 
     right : Right (Unit {0}) rows
     right =
-        (λ b. false-reflects _, (λ b. false-reflects _, (λ b. false-reflects _, (λ b. argument-reflects s p i, (λ b. ltb-reflects (length out) (length (stepLine s p i)), tt)))))
+        (λ b. false-reflects _, (λ b. false-reflects _, (λ b. false-reflects _, (λ b. argument, (λ b. ltb-reflects (length out) (length (lineToSend M s p i)), tt)))))
+
+-- the private call machine
+pub step-exactly-when : StepExactlyWhen privateMachine
+step-exactly-when =
+    machine-exactly-when privateMachine (λ s p i. identifierTaken s p (i .event) (rowOf s p i)) taken-reflects
+    (λ s p i out. number-told s p i out ∙ step-number s p i out)

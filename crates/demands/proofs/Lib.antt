@@ -7,3 +7,6 @@ pub mod Tables
 pub mod ExactlyWhen
 pub mod RowPlays
 pub mod Strays
+pub mod Machines
+pub mod GroupMachine
+pub mod GroupPlays

@@ -29,7 +29,9 @@ use Rattle.private_rows.specs.declared.states.Timers.{Timers}
 use Rattle.private_rows.proofs.WellFormed.{fit}
 use Rattle.private_effects.specs.Carried.{startedOf, stoppedOf, runningAfter, countersAfter, carryOut}
 use Rattle.private_call.specs.Step.{stepOf}
+use Rattle.private_call.specs.declared.Stepped.{Stepped}
 use Rattle.private_call.proofs.MarkedSteps.{expiry-discarded, second-accept, last-expiry}
+use Rattle.demands.specs.Machines.{privateAnswer, privateMachine}
 use Rattle.demands.specs.MarkedCases.{spoilt, writes, expiryDiscarded, Holds, reading-holds, spoilt-holds, writing-holds, ringing, setup, table, AllHold}
 use Rattle.demands.specs.Played.{crewWith, crew, ours, theirs, cfp1At, stored, does, expires}
 use Rattle.demands.specs.MarkedCases.{steps, step-holds, last-expiry-holds, second-discarded-holds, expiry-discarded-holds}
@@ -61,25 +63,29 @@ by-length {m} {media} {room} h =
     writing-holds (λ out e.
     ap (λ (k : ℕ). firstGiven ((5, not (inRange m media)) ∷ (6, ltb k (length (lineOf m media))) ∷ [])) (e ∙ sym (length-replicate room 0)) ∙ h)
 
+-- two answers of the private call machine that are one, and what else is told of them
+answers : {x y : Stepped} {A : Type 0} → (x ≡ y) × A → (privateAnswer x ≡ privateAnswer y) × A
+answers k = (ap privateAnswer (k .0), k .1)
+
 -- a timer that does not run in a state, whatever runs there: its expiry is discarded
 quiet : {state : State} {timer : PrivateTimer} → ((w : Timers) → has (runningOf (phaseIn state w)) timer ≡ false) → Holds (expiryDiscarded state timer)
 quiet {state} {timer} h =
     expiry-discarded-holds (λ s p media v out g w e.
     let runs = fit s p w .running ∙ ap (λ (x : State). runningOf (phaseIn x (p .running))) e in
-    expiry-discarded s p timer media v out g w (ap (λ (x : Timers). has x timer) runs ∙ h (p .running)))
+    answers (expiry-discarded s p timer media v out g w (ap (λ (x : Timers). has x timer) runs ∙ h (p .running))))
 
 -- case E, for a record
-step-E : Holds (steps (crewWith false 1) (stored Phase.P2Tfp1 (cfp1At 1) ours) (expires PrivateTimer.Tfp1) [] 0 3)
+step-E : Holds (steps privateMachine (crewWith false 1) (stored Phase.P2Tfp1 (cfp1At 1) ours) (expires PrivateTimer.Tfp1) [] 0 3)
 unfolding stepOf settingsGood wellFormed rowIn carryOut startedOf stoppedOf runningAfter countersAfter inRange partiesGood setupGood
 step-E = step-holds refl refl
 
 -- case F, for a record
-step-F : Holds (steps crew (stored Phase.P5Tfp2 noCounters theirs) (does PrivateAction.Accept) (replicate 31 0) 0 23)
+step-F : Holds (steps privateMachine crew (stored Phase.P5Tfp2 noCounters theirs) (does PrivateAction.Accept) (replicate 31 0) 0 23)
 unfolding stepOf settingsGood wellFormed rowIn carryOut startedOf stoppedOf runningAfter countersAfter inRange partiesGood setupGood writeNumber lineOf frameInHex allInHex inHex
 step-F = step-holds refl refl
 
 -- case G, for a record
-step-G : Holds (steps crew (stored Phase.P4 noCounters ours) (expires PrivateTimer.Tfp7) [] 0 0)
+step-G : Holds (steps privateMachine crew (stored Phase.P4 noCounters ours) (expires PrivateTimer.Tfp7) [] 0 0)
 unfolding stepOf settingsGood wellFormed rowIn carryOut startedOf stoppedOf runningAfter countersAfter inRange partiesGood setupGood
 step-G = step-holds refl refl
 
@@ -87,4 +93,4 @@ step-G = step-holds refl refl
 pub marked-cases : AllHold table
 unfolding below AllHold table ringing setup readLine refusalOf messageAt mediaAt numbersAt numberAt digitsOf allDigits inRange partiesGood setupGood groupCallGood acceptanceGood writeNumber lineOf frameInHex allInHex inHex
 marked-cases =
-    (reading-holds refl, (everywhere refl, (reading-holds refl, (reading-holds refl, (last-expiry-holds last-expiry, (step-E, (second-discarded-holds second-accept, (step-F, (quiet (λ w. refl), (step-G, (by-length refl, (by-length refl, (reading-holds refl, (by-length refl, (reading-holds refl, (by-length refl, tt))))))))))))))))
+    (reading-holds refl, (everywhere refl, (reading-holds refl, (reading-holds refl, (last-expiry-holds last-expiry, (step-E, (second-discarded-holds (λ s p media media' v v' out out' e. answers (second-accept s p media media' v v' out out' e)), (step-F, (quiet (λ w. refl), (step-G, (by-length refl, (by-length refl, (reading-holds refl, (by-length refl, (reading-holds refl, (by-length refl, tt))))))))))))))))

@@ -1,5 +1,5 @@
 -- A refusal changes nothing, for every public function that writes into a lent buffer. Assumes nothing.
-use mathlib.Core.Path.{refl, sym, ap, _∙_}
+use mathlib.Core.Path.{_≡_, refl, sym, ap, _∙_}
 use mathlib.Core.List.{List}
 use Prim.Native.Nat.{ℕ}
 use borrow.Author.Tests.{eq-eqb, ne-eqb}
@@ -14,10 +14,11 @@ use Rattle.call.specs.declared.Settings.{Settings}
 use Rattle.call.specs.declared.Input.{Input}
 use Rattle.call.specs.declared.Send.{Send}
 use Rattle.private_rows.specs.declared.states.PrivateRecord.{PrivateRecord}
-use Rattle.private_call.specs.Step.{stepLine, stepNumber, stepOf, stepBuffer}
-use Rattle.private_call.specs.declared.Stepped.{Stepped}
+use Rattle.private_call.specs.Step.{stepNumber, stepOf, stepBuffer}
 use Rattle.private_call.proofs.Steps.{number-told, row-0-keeps}
-use Rattle.demands.specs.NothingChanges.{NothingChanges, StepNothingChanges}
+use Rattle.private_call.proofs.MarkedSteps.{line-done}
+use Rattle.demands.specs.Machines.{Machine, lineToSend, IsRefused, privateAnswer, privateMachine}
+use Rattle.demands.specs.NothingChanges.{Done, NothingChanges, StepKept, StepNothingChanges}
 
 -- ---- a text written into a lent buffer
 
@@ -40,18 +41,33 @@ pub write-sent-nothing-changes : (sent : Send) (media : Media) (out : List ℕ)
     → NothingChanges (lineSent sent media) (sendTold sent media out) out (sendBuffer sent media out)
 write-sent-nothing-changes sent media out = lent-nothing-changes (sendNumber sent media out) (lineSent sent media) out
 
--- ---- a step of the private call machine
+-- ---- a step
 
--- a step
-pub step-nothing-changes : (s : Settings) (p : PrivateRecord) (i : Input) (out : List ℕ)
-    → StepNothingChanges (stepLine s p i) p (stepOf s p i out) out (stepBuffer s p i out)
+-- a step that is refused with some number
+abbrev pub Refusing : (M : Machine) → Settings → M .Stored → Input → List ℕ → Type 0
+Refusing M s p i out = (n : ℕ) × IsRefused M n s p i out
+
+-- a machine that refuses where its number is not 0, and where its row is 0, and otherwise writes its line
+pub machine-nothing-changes : (M : Machine)
+    → ((s : Settings) (p : M .Stored) (i : Input) (out : List ℕ) → (M .step s p i out .number ≡ 0 → ⊥) → Refusing M s p i out)
+    → ((s : Settings) (p : M .Stored) (i : Input) (out : List ℕ) → M .step s p i out .row ≡ 0 → Refusing M s p i out)
+    → ((s : Settings) (p : M .Stored) (i : Input) (out : List ℕ) → M .step s p i out .number ≡ 0
+    → Done (lineToSend M s p i) (M .step s p i out .length) out (M .buffer s p i out)) → StepNothingChanges M
+machine-nothing-changes M numbered rowless done s p i out = (λ f. kept (numbered s p i out f), λ e. kept (rowless s p i out e), done s p i out)
+  where
+    kept : Refusing M s p i out → StepKept M p (M .step s p i out) out (M .buffer s p i out)
+    kept k =
+        let e = k .1 .0 in (λ j. e j .next, λ j. e j .row, λ j. e j .stop, λ j. e j .start, (λ j. e j .length, k .1 .1))
+
+-- the private call machine refuses where its number is not 0
+private-refuses : (s : Settings) (p : PrivateRecord) (i : Input) (out : List ℕ) → (stepOf s p i out .number ≡ 0 → ⊥) → Refusing privateMachine s p i out
 unfolding stepOf stepBuffer
-step-nothing-changes s p i out = (
-  λ f.
-      let b = ne-eqb (stepNumber s p i out) 0 (λ z. f (number-told s p i out ∙ z)) in
-      (rw b refl, rw b refl, rw b refl, rw b refl, (rw b refl, rw b refl)),
-  λ e.
-      let k = row-0-keeps s p i out e in
-      (ap (λ (r : Stepped). r .next) (k .0), e, ap (λ (r : Stepped). r .stop) (k .0), ap (λ (r : Stepped). r .start) (k .0), (ap (λ (r : Stepped). r .length) (k .0), k .1)),
-  λ e. let b = eq-eqb (stepNumber s p i out) 0 (sym (number-told s p i out) ∙ e) in (rw b refl, rw b refl),
-)
+private-refuses s p i out f =
+    let b = ne-eqb (stepNumber s p i out) 0 (λ z. f (number-told s p i out ∙ z)) in (stepNumber s p i out, (rw b refl, rw b refl))
+
+-- the private call machine
+pub step-nothing-changes : StepNothingChanges privateMachine
+step-nothing-changes =
+    machine-nothing-changes privateMachine private-refuses
+    (λ s p i out e. let k = row-0-keeps s p i out e in (stepNumber s p i out, (ap privateAnswer (k .0), k .1)))
+    (λ s p i out e. line-done s p i out (sym (number-told s p i out) ∙ e))

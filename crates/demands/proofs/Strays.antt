@@ -9,16 +9,18 @@ use Rattle.private_rows.specs.Formed.{wellFormed}
 use Rattle.private_rows.specs.Rows.{rowIn}
 use Rattle.private_effects.specs.Carried.{startedOf, stoppedOf, runningAfter, countersAfter, carryOut}
 use Rattle.private_call.specs.Step.{stepOf, stepBuffer}
+use Rattle.demands.specs.Machines.{privateMachine}
+use Rattle.demands.specs.Played.{crew}
 use Rattle.demands.specs.Strays.{strays, AllStray, refusals, AllRefused}
 
 -- what meets no row is discarded
-pub strays-discarded : AllStray strays
+pub strays-discarded : AllStray privateMachine crew strays
 unfolding strays stepOf stepBuffer settingsGood wellFormed rowIn carryOut startedOf stoppedOf runningAfter countersAfter inRange partiesGood setupGood writeNumber digitsOf lineOf frameInHex allInHex inHex groupCallGood acceptanceGood
 strays-discarded =
     ((refl, refl), ((refl, refl), ((refl, refl), ((refl, refl), ((refl, refl), ((refl, refl), ((refl, refl), ((refl, refl), ((refl, refl), ((refl, refl), ((refl, refl), ((refl, refl), ((refl, refl), tt)))))))))))))
 
 -- what is refused is refused so
-pub refusals-come-out : AllRefused refusals
+pub refusals-come-out : AllRefused privateMachine refusals
 unfolding refusals stepOf stepBuffer settingsGood wellFormed rowIn carryOut startedOf stoppedOf runningAfter countersAfter inRange partiesGood setupGood writeNumber digitsOf lineOf frameInHex allInHex inHex groupCallGood acceptanceGood
 refusals-come-out =
     ((refl, refl), ((refl, refl), ((refl, refl), ((refl, refl), ((refl, refl), ((refl, refl), ((refl, refl), ((refl, refl), ((refl, refl), ((refl, refl), ((refl, refl), ((refl, refl), tt))))))))))))

@@ -12,16 +12,11 @@ use Rattle.frame.specs.declared.Media.{Media}
 use Rattle.frame.specs.declared.Message.{Message}
 use Rattle.log.specs.Answer.{answerOf}
 use Rattle.call.specs.Settings.{settingsGood}
-use Rattle.call.specs.Request.{requestOf}
 use Rattle.call.specs.Numbers.{heardGood, argumentsGood}
 use Rattle.call.specs.declared.Settings.{Settings}
 use Rattle.call.specs.declared.Input.{Input}
-use Rattle.private_rows.specs.Formed.{wellFormed}
-use Rattle.private_rows.specs.Rows.{rowOf}
-use Rattle.private_rows.specs.declared.states.PrivateRecord.{PrivateRecord}
-use Rattle.private_rows.specs.declared.rows.Row.the-variants.{R1}
-use Rattle.private_call.specs.Step.{stepLine}
 use Rattle.demands.specs.Totals.{totals}
+use Rattle.demands.specs.Machines.{Machine, lineToSend}
 
 -- ---- what it is for a number to be given exactly when
 
@@ -73,34 +68,35 @@ writeTable m media out = (5, inRange m media ≡ false) ∷ (6, length out < len
 abbrev pub answerTable : List ℕ → List ℕ → List (ℕ × Type 0)
 answerTable log out = (6, length out < length (answerOf log)) ∷ []
 
--- ---- a step of the private call machine
+-- ---- a step of a call machine
 
 -- 7: a setting is outside its range
 abbrev pub SettingOut : Settings → Type 0
 SettingOut s = settingsGood s ≡ false
 
 -- 9: the record is not well formed under the settings
-abbrev pub Unformed : Settings → PrivateRecord → Type 0
-Unformed s p = wellFormed s p ≡ false
+abbrev pub Unformed : (M : Machine) → Settings → M .Stored → Type 0
+Unformed M s p = M .wellFormed s p ≡ false
 
 -- 5: the event is a message, and a field of it is outside its range
 abbrev pub FieldOut : Input → Type 0
 FieldOut i = heardGood (i .event) (i .media) ≡ false
 
--- 8: the event is an action, and an argument of it is outside its range or the callee is own
+-- 8: the event is an action, and an argument of it is outside its range or the callee is own; a row may refuse with 8 too
 abbrev pub ArgumentOut : Settings → Input → Type 0
 ArgumentOut s i = argumentsGood s (i .event) (i .media) ≡ false
 
--- 8 too: all that R1 asks holds, and the identifier that the user names is the stored one
-abbrev pub IdentifierStored : Settings → PrivateRecord → Input → Type 0
-IdentifierStored s p i = (rowOf s p i ≡ R1) × (requestOf s (i .event) .parties .identifier ≡ p .call .parties .identifier)
-
 -- 6: the buffer is shorter than the line that the row sends; a row that sends nothing has a line of no bytes, and no buffer is shorter than that
-abbrev pub StepRoomless : Settings → PrivateRecord → Input → List ℕ → Type 0
-StepRoomless s p i out = length out < length (stepLine s p i)
+abbrev pub StepRoomless : (M : Machine) → Settings → M .Stored → Input → List ℕ → Type 0
+StepRoomless M s p i out = length out < length (lineToSend M s p i)
 
 -- its table
-abbrev pub stepTable : Settings → PrivateRecord → Input → List ℕ → List (ℕ × Type 0)
-stepTable s p i out =
-    (7, SettingOut s) ∷ (9, Unformed s p) ∷ (5, FieldOut i) ∷ (8, ArgumentOut s i ⊎ IdentifierStored s p i)
-    ∷ (6, StepRoomless s p i out) ∷ []
+abbrev pub stepTable : (M : Machine) → Settings → M .Stored → Input → List ℕ → List (ℕ × Type 0)
+stepTable M s p i out =
+    (7, SettingOut s) ∷ (9, Unformed M s p) ∷ (5, FieldOut i) ∷ (8, ArgumentOut s i ⊎ M .RefusedByRow s p i)
+    ∷ (6, StepRoomless M s p i out) ∷ []
+
+-- each of its numbers is given exactly when
+abbrev pub StepExactlyWhen : Machine → Type 0
+StepExactlyWhen M =
+    (s : Settings) (p : M .Stored) (i : Input) (out : List ℕ) → ExactlyWhen (M .step s p i out .number) (Unit {0}) (stepTable M s p i out)

@@ -1,8 +1,11 @@
 pub mod Text
 pub mod Totals
+pub mod Machines
 pub mod ExactlyWhen
 pub mod NothingChanges
 pub mod Played
 pub mod MarkedCases
 pub mod RowPlays
 pub mod Strays
+pub mod GroupPlayed
+pub mod GroupPlays

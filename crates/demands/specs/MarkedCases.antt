@@ -22,25 +22,22 @@ use Rattle.private_rows.specs.Formed.{wellFormed}
 use Rattle.private_rows.specs.declared.states.State.{State}
 use Rattle.private_rows.specs.declared.states.Phase.{Phase}
 use Rattle.private_rows.specs.declared.states.PrivateRecord.{PrivateRecord}
-use Rattle.private_call.specs.Step.{discarded, stepOf, stepBuffer}
+use Rattle.private_call.specs.Step.{stepOf}
 use Rattle.private_call.specs.Running.{expiry, userAccepts}
 use Rattle.demands.specs.Text.{bytes}
+use Rattle.demands.specs.Machines.{Machine, IsDiscarded, privateMachine}
 use Rattle.demands.specs.Played.{crewWith, crew, five, ours, theirs, cfp1At, stored, does, expires}
 
--- an input is discarded: number 0, row 0, the record as it was, no timer, length 0, and every byte of the buffer as lent
-abbrev pub IsDiscarded : Settings → PrivateRecord → Input → List ℕ → Type 0
-IsDiscarded s p i out = (stepOf s p i out ≡ discarded p) × (stepBuffer s p i out ≡ out)
-
 -- what a case says
-pub data Case : Type 0 where
+pub data Case : Type 1 where
   -- a line reads as this
   reads : List ℕ → Reading → Case
   -- a line with this byte in place of any one of its digits has this number
   spoilt : List ℕ → ℕ → ℕ → Case
   -- a frame gets this number from every buffer of this length
   writes : Message → Media → ℕ → ℕ → Case
-  -- a step gives this number and this row
-  steps : Settings → PrivateRecord → Input → List ℕ → ℕ → ℕ → Case
+  -- a step of a call machine gives this number and this row
+  steps : (M : Machine) → Settings → M .Stored → Input → List ℕ → ℕ → ℕ → Case
   -- from every well-formed record with this CFP1, at this limit of it, the expiry of TFP1 meets this row
   lastExpiry : ℕ → ℕ → ℕ → Case
   -- the user's accept meets this row, and the user accepts again: the second accept is discarded
@@ -49,24 +46,24 @@ pub data Case : Type 0 where
   expiryDiscarded : State → PrivateTimer → Case
 
 -- a case holds
-pub data Holds : Case → Type 0 where
+pub data Holds : Case → Type 1 where
   reading-holds : {l : List ℕ} {r : Reading} → readLine l ≡ r → Holds (reads l r)
   spoilt-holds : {l : List ℕ} {byte n : ℕ} → ((i : ℕ) → i < count l → lineNumber (set l i byte) ≡ n) → Holds (spoilt l byte n)
   writing-holds : {m : Message} {media : Media} {room n : ℕ} → ((out : List ℕ) → length out ≡ room → writeNumber m media out ≡ n)
       → Holds (writes m media room n)
-  step-holds : {s : Settings} {p : PrivateRecord} {i : Input} {out : List ℕ} {n row : ℕ} → stepOf s p i out .number ≡ n → stepOf s p i out .row ≡ row
-      → Holds (steps s p i out n row)
+  step-holds : {M : Machine} {s : Settings} {p : M .Stored} {i : Input} {out : List ℕ} {n row : ℕ} → M .step s p i out .number ≡ n
+      → M .step s p i out .row ≡ row → Holds (steps M s p i out n row)
   last-expiry-holds : {counter limit row : ℕ}
       → ((s : Settings) (p : PrivateRecord) (media : Media) (v : Verdicts) (out : List ℕ) → settingsGood s ≡ true → wellFormed s p ≡ true
       → p .counters .cfp1 ≡ counter → s .limits .cfp1 ≡ limit → stepOf s p (expiry PrivateTimer.Tfp1 media v) out .row ≡ row)
       → Holds (lastExpiry counter limit row)
   second-discarded-holds : {row : ℕ}
       → ((s : Settings) (p : PrivateRecord) (media media' : Media) (v v' : Verdicts) (out out' : List ℕ) → stepOf s p (userAccepts media v) out .row ≡ row
-      → IsDiscarded s (stepOf s p (userAccepts media v) out .next) (userAccepts media' v') out')
+      → IsDiscarded privateMachine s (stepOf s p (userAccepts media v) out .next) (userAccepts media' v') out')
       → Holds (secondDiscarded row)
   expiry-discarded-holds : {state : State} {timer : PrivateTimer}
       → ((s : Settings) (p : PrivateRecord) (media : Media) (v : Verdicts) (out : List ℕ) → settingsGood s ≡ true → wellFormed s p ≡ true
-      → p .state ≡ state → IsDiscarded s p (expiry timer media v) out)
+      → p .state ≡ state → IsDiscarded privateMachine s p (expiry timer media v) out)
       → Holds (expiryDiscarded state timer)
 
 -- RINGING of call 1234 (hexadecimal), caller 7, callee 9
@@ -87,11 +84,11 @@ table =
     ∷ ("C", reads (bytes "\n") (refusal 3))
     ∷ ("D", reads (bytes "0a12340000000700000009\n") (refusal 3))
     ∷ ("E", lastExpiry 1 1 3)
-    ∷ ("E", steps (crewWith false 1) (stored Phase.P2Tfp1 (cfp1At 1) ours) (expires PrivateTimer.Tfp1) [] 0 3)
+    ∷ ("E", steps privateMachine (crewWith false 1) (stored Phase.P2Tfp1 (cfp1At 1) ours) (expires PrivateTimer.Tfp1) [] 0 3)
     ∷ ("F", secondDiscarded 23)
-    ∷ ("F", steps crew (stored Phase.P5Tfp2 noCounters theirs) (does PrivateAction.Accept) (replicate 31 0) 0 23)
+    ∷ ("F", steps privateMachine crew (stored Phase.P5Tfp2 noCounters theirs) (does PrivateAction.Accept) (replicate 31 0) 0 23)
     ∷ ("G", expiryDiscarded State.P4 PrivateTimer.Tfp7)
-    ∷ ("G", steps crew (stored Phase.P4 noCounters ours) (expires PrivateTimer.Tfp7) [] 0 0)
+    ∷ ("G", steps privateMachine crew (stored Phase.P4 noCounters ours) (expires PrivateTimer.Tfp7) [] 0 0)
     ∷ ("K", writes ringing noMedia 22 6)
     ∷ ("K", writes ringing noMedia 23 0)
     ∷ ("L", reads (bytes "011234000000070000000900040000000530000000\n") (reading (setup 0x3000_0000) five))
@@ -101,6 +98,6 @@ table =
     ∷ []
 
 -- every case of a table holds
-unfoldable pub AllHold : List (String × Case) → Type 0
-AllHold [] = Unit {0}
+unfoldable pub AllHold : List (String × Case) → Type 1
+AllHold [] = Unit {1}
 AllHold (row ∷ rows) = Holds (row .1) × AllHold rows

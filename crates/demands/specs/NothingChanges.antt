@@ -5,9 +5,9 @@ use Prim.Native.Nat.{ℕ}
 use lib.ListN.{length}
 use Rattle.frame.specs.Lent.{atFront}
 use Rattle.frame.specs.declared.Written.{Written}
-use Rattle.private_rows.specs.Phases.{noTimer}
-use Rattle.private_rows.specs.declared.states.PrivateRecord.{PrivateRecord}
-use Rattle.private_call.specs.declared.Stepped.{Stepped}
+use Rattle.call.specs.declared.Settings.{Settings}
+use Rattle.call.specs.declared.Input.{Input}
+use Rattle.demands.specs.Machines.{Answer, Machine, lineToSend}
 
 -- ---- a text written into a lent buffer
 
@@ -24,15 +24,17 @@ abbrev pub NothingChanges : List ℕ → Written → List ℕ → List ℕ → T
 NothingChanges text result lent after =
     (((result .number ≡ 0) → ⊥) → Kept (result .length) lent after) × (result .number ≡ 0 → Done text (result .length) lent after)
 
--- ---- a step of the private call machine
+-- ---- a step of a call machine
 
 -- nothing was done: the record is the stored one, there is no row, no timer to stop or to start and no line, and every byte of the buffer is what it was
-abbrev pub StepKept : PrivateRecord → Stepped → List ℕ → List ℕ → Type 0
-StepKept stored result lent after =
-    (result .next ≡ stored) × (result .row ≡ 0) × (result .stop ≡ noTimer) × (result .start ≡ noTimer) × Kept (result .length) lent after
+abbrev pub StepKept : (M : Machine) → M .Stored → Answer (M .Stored) (M .Timers) → List ℕ → List ℕ → Type 0
+StepKept M stored result lent after =
+    (result .next ≡ stored) × (result .row ≡ 0) × (result .stop ≡ M .noTimer) × (result .start ≡ M .noTimer) × Kept (result .length) lent after
 
 -- a step: a number that is not 0 changes nothing, nor does row 0; and number 0 writes the line and nothing else
-abbrev pub StepNothingChanges : List ℕ → PrivateRecord → Stepped → List ℕ → List ℕ → Type 0
-StepNothingChanges line stored result lent after =
-    (((result .number ≡ 0) → ⊥) → StepKept stored result lent after) × (result .row ≡ 0 → StepKept stored result lent after)
-    × (result .number ≡ 0 → Done line (result .length) lent after)
+abbrev pub StepNothingChanges : Machine → Type 0
+StepNothingChanges M =
+    (s : Settings) (p : M .Stored) (i : Input) (out : List ℕ) → let result = M .step s p i out in
+    let after = M .buffer s p i out in
+    (((result .number ≡ 0) → ⊥) → StepKept M p result out after) × (result .row ≡ 0 → StepKept M p result out after)
+    × (result .number ≡ 0 → Done (lineToSend M s p i) (result .length) out after)

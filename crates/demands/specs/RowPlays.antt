@@ -14,32 +14,35 @@ use Rattle.call.specs.declared.PrivateAction.{PrivateAction}
 use Rattle.call.specs.declared.Input.{Input}
 use Rattle.private_rows.specs.Phases.{noTimer, tfp1, tfp2, tfp3, tfp4, tfp5, tfp7}
 use Rattle.private_rows.specs.Formed.{clearedRecord}
-use Rattle.private_rows.specs.declared.states.Timers.{Timers}
 use Rattle.private_rows.specs.declared.states.Phase.{Phase}
-use Rattle.private_rows.specs.declared.states.PrivateRecord.{PrivateRecord}
-use Rattle.private_call.specs.Step.{stepOf, stepBuffer}
 use Rattle.private_call.specs.Running.{sentPrivate}
 use Rattle.demands.specs.Text.{bytes}
+use Rattle.demands.specs.Machines.{Machine, privateMachine}
 use Rattle.demands.specs.Played.{crew, restrictedCrew, secure, outgoing, ours, answered, theirs, taken, cfp1At, cfp3At, cfp4At, stored, hears, hearsInVain, hearsSigned, request, does, acceptsSigned, starts, expires}
 
 -- ---- the plays
 
--- row, settings, record, input; timers to stop, timers to start, next record, line sent
-pub data Play : Type 0 where
-  play : ℕ → Settings → PrivateRecord → Input → Timers → Timers → PrivateRecord → String → Play
+-- of a call machine: row, settings, record, input; timers to stop, timers to start, next record, line sent
+pub data Play (M : Machine) : Type 0 where
+  play : ℕ → Settings → M .Stored → Input → M .Timers → M .Timers → M .Stored → String → Play M
 
 -- the buffer lent: the longest line, of zeros
 abbrev pub lent : List ℕ
 lent = replicate longestLine 0
 
 -- it comes out as told
-abbrev pub ComesOut : Play → Type 0
-ComesOut (play row s p i stop start next line) =
-    (stepOf s p i lent ≡ record { number = 0; row = row; next = next; stop = stop; start = start; length = length (bytes line) })
-    × (stepBuffer s p i lent ≡ atFront (bytes line) lent)
+abbrev pub ComesOut : (M : Machine) → Play M → Type 0
+ComesOut M (play row s p i stop start next line) =
+    (M .step s p i lent ≡ record { number = 0; row = row; next = next; stop = stop; start = start; length = length (bytes line) })
+    × (M .buffer s p i lent ≡ atFront (bytes line) lent)
 
--- the plays in the order of the rows
-unfoldable pub plays : List Play
+-- all come out
+abbrev pub AllComeOut : (M : Machine) → List (Play M) → Type 0
+AllComeOut M [] = Unit {0}
+AllComeOut M (x ∷ xs) = ComesOut M x × AllComeOut M xs
+
+-- of the private call machine, in the order of the rows
+unfoldable pub plays : List (Play privateMachine)
 plays =
     play 1 crew (stored Phase.P1 noCounters ours) (starts 0x1235) tfp7 tfp1 (stored Phase.P2Tfp1 (cfp1At 1) (outgoing 0x1235)) "011235000000070000000900040000000500000000\n"
     ∷ play 2 crew (stored Phase.P2Tfp1 (cfp1At 1) ours) (expires PrivateTimer.Tfp1) noTimer tfp1 (stored Phase.P2Tfp1 (cfp1At 2) ours) "011234000000070000000900040000000500000000\n"
@@ -81,11 +84,6 @@ plays =
     ∷ play 28 crew (stored Phase.P1 noCounters ours) (expires PrivateTimer.Tfp7) noTimer noTimer clearedRecord ""
     ∷ play 29 crew (stored Phase.P4 noCounters ours) (hears (Accept (ours .parties))) noTimer noTimer (stored Phase.P4 noCounters ours) "0712340000000700000009\n"
     ∷ []
-
--- all come out
-abbrev pub AllComeOut : List Play → Type 0
-AllComeOut [] = Unit {0}
-AllComeOut (x ∷ xs) = ComesOut x × AllComeOut xs
 
 -- ---- a run
 

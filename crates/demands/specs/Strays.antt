@@ -1,5 +1,4 @@
 -- What meets no row, and what is refused: steps that change nothing. Assumes nothing.
-use mathlib.Core.Path.{_≡_}
 use mathlib.Core.List.{List, [], _∷_}
 use mathlib.Core.Bool.{true, false}
 use Prim.Native.Nat.{ℕ}
@@ -23,10 +22,19 @@ use Rattle.private_rows.specs.declared.states.State.{State}
 use Rattle.private_rows.specs.declared.states.Timers.{Timers}
 use Rattle.private_rows.specs.declared.states.Phase.{Phase}
 use Rattle.private_rows.specs.declared.states.PrivateRecord.{PrivateRecord}
-use Rattle.private_call.specs.Step.{refusedOf, discarded, stepOf, stepBuffer}
+use Rattle.demands.specs.Machines.{Machine, IsRefused, IsDiscarded, privateMachine}
 use Rattle.demands.specs.Played.{crewWith, crew, secure, ours, theirs, taken, cfp1At, cfp4At, stored, input, hears, hearsInVain, request, does, starts, expires}
 
 -- ---- what meets no row
+
+-- what is stored and what happens to no avail, of a call machine
+abbrev pub Stray : Machine → Type 0
+Stray M = M .Stored × Input
+
+-- under these settings each is discarded, with no buffer at all
+abbrev pub AllStray : (M : Machine) → Settings → List (Stray M) → Type 0
+AllStray M s [] = Unit {0}
+AllStray M s (x ∷ xs) = IsDiscarded M s (x .0) (x .1) [] × AllStray M s xs
 
 -- a good announcement of group 3
 abbrev pub announced : Message
@@ -48,8 +56,8 @@ abbrev pub requestBetween : ℕ → ℕ → Message
 requestBetween caller callee =
     SetupRequest (record { identifier = 0x1235; caller = caller; callee = callee }) (record { commencement = 0; «call_type» = privateType; «pck_id» = 0 })
 
--- what is stored, and what happens to no avail
-unfoldable pub strays : List (PrivateRecord × Input)
+-- of the private call machine
+unfoldable pub strays : List (Stray privateMachine)
 strays =
     (stored Phase.P2Tfp1 (cfp1At 1) ours, input (Event.Action (Action.Group GroupAction.Leave)) true true)
     ∷ (stored Phase.P4 noCounters ours, input (Event.Expiry (Timer.Group GroupTimer.Tfg2)) true true)
@@ -66,19 +74,23 @@ strays =
     ∷ (stored Phase.P4 noCounters ours, hears (Release (taken 0 0 .parties)))
     ∷ []
 
--- each is discarded, with no buffer at all
-abbrev pub AllStray : List (PrivateRecord × Input) → Type 0
-AllStray [] = Unit {0}
-AllStray (x ∷ xs) = ((stepOf crew (x .0) (x .1) [] ≡ discarded (x .0)) × (stepBuffer crew (x .0) (x .1) [] ≡ [])) × AllStray xs
-
 -- ---- what is refused
+
+-- of a call machine: number, settings, record, input and the length of the buffer
+abbrev pub Refusal : Machine → Type 0
+Refusal M = ℕ × Settings × M .Stored × Input × ℕ
+
+-- each is refused so
+abbrev pub AllRefused : (M : Machine) → List (Refusal M) → Type 0
+AllRefused M [] = Unit {0}
+AllRefused M (x ∷ xs) = IsRefused M (x .0) (x .1) (x .2) (x .3) (replicate (x .4) 0) × AllRefused M xs
 
 -- our call in a state with any timers
 abbrev pub running : State → Timers → PrivateRecord
 running state timers = record { state = state; running = timers; counters = noCounters; call = ours }
 
--- number, settings, record, input and the length of the buffer
-unfoldable pub refusals : List (ℕ × Settings × PrivateRecord × Input × ℕ)
+-- of the private call machine
+unfoldable pub refusals : List (Refusal privateMachine)
 refusals =
     (5, crew, stored Phase.P4 noCounters ours, hears (Reject (theirs .parties) 5), 63)
     ∷ (5, crew, clearedRecord, hears (GroupAccept (record { identifier = 0; sender = 9; «call_type» = 2; group = 3 })), 0)
@@ -93,10 +105,3 @@ refusals =
     ∷ (9, crew, running State.P2 (record { tfp1 = true; tfp2 = true; tfp3 = false; tfp4 = false; tfp5 = false; tfp7 = false }), expires PrivateTimer.Tfp2, 63)
     ∷ (9, crew, running State.P4 (runningOf Phase.P1), expires PrivateTimer.Tfp7, 63)
     ∷ []
-
--- each is refused so
-abbrev pub AllRefused : List (ℕ × Settings × PrivateRecord × Input × ℕ) → Type 0
-AllRefused [] = Unit {0}
-AllRefused (x ∷ xs) =
-    ((stepOf (x .1) (x .2) (x .3) (replicate (x .4) 0) ≡ refusedOf (x .0) (x .2))
-    × (stepBuffer (x .1) (x .2) (x .3) (replicate (x .4) 0) ≡ replicate (x .4) 0)) × AllRefused xs

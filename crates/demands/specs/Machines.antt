@@ -1,0 +1,197 @@
+-- A call machine, what is asked of the steps of every one, and the two that there are. Assumes nothing.
+use mathlib.Core.Path.{_≡_}
+use mathlib.Core.List.{List}
+use mathlib.Core.Bool.{Bool, true, false}
+use Prim.Native.Nat.{ℕ, _≤_}
+use Rattle.frame.specs.Frame.{inRange}
+use Rattle.frame.specs.declared.Media.{Media}
+use Rattle.frame.specs.declared.Message.{Message}
+use Rattle.call.specs.Settings.{settingsGood}
+use Rattle.call.specs.Request.{requestOf}
+use Rattle.call.specs.Announced.{announcedOf}
+use Rattle.call.specs.Numbers.{heardGood, argumentsGood}
+use Rattle.call.specs.Sending.{lineSent}
+use Rattle.call.specs.Timing.{runsAfter}
+use Rattle.call.specs.declared.Settings.{Settings}
+use Rattle.call.specs.declared.PrivateTimer.{PrivateTimer}
+use Rattle.call.specs.declared.GroupTimer.{GroupTimer}
+use Rattle.call.specs.declared.Event.{Event}
+use Rattle.call.specs.declared.Input.{Input}
+use Rattle.call.specs.declared.Send.{Send}
+use Rattle.private_rows.specs.Phases as Phases
+use Rattle.private_rows.specs.Formed as Formed
+use Rattle.private_rows.specs.Rows.{rowOf}
+use Rattle.private_rows.specs.declared.states.Timers as PrivateTimers
+use Rattle.private_rows.specs.declared.states.PrivateRecord.{PrivateRecord}
+use Rattle.private_rows.specs.declared.rows.Row.the-variants.{R1}
+use Rattle.private_effects.specs.Carried as Carried
+use Rattle.private_call.specs.Step.{doneOf, stepOf, stepBuffer}
+use Rattle.private_call.specs.declared.Stepped.{Stepped}
+use Rattle.group_call.specs.States as GroupStates
+use Rattle.group_call.specs.Formed as GroupFormed
+use Rattle.group_call.specs.Rows as GroupRows
+use Rattle.group_call.specs.Carried as GroupCarried
+use Rattle.group_call.specs.Step as GroupStep
+use Rattle.group_call.specs.declared.states.Timers as GroupTimers
+use Rattle.group_call.specs.declared.states.GroupRecord.{GroupRecord}
+use Rattle.group_call.specs.declared.rows.Row.the-variants.{G9}
+use Rattle.group_call.specs.declared.Stepped as GroupStepped
+
+-- ---- a machine
+
+-- the answer of a step
+pub record Answer (Stored Timers : Type 0) : Type 0 where
+  -- its number
+  pub number : ℕ
+  -- the row that was carried out, 0 where none was
+  pub row : ℕ
+  -- the next record
+  pub next : Stored
+  -- the timers to stop
+  pub stop : Timers
+  -- the timers to start then
+  pub start : Timers
+  -- the length of the line to send
+  pub length : ℕ
+
+-- a call machine
+pub record Machine : Type 1 where
+  -- its records
+  pub Stored : Type 0
+  -- its sets of timers
+  pub Timers : Type 0
+  -- its timers
+  pub Timer : Type 0
+  -- whether a timer is in a set
+  pub has : Timers → Timer → Bool
+  -- no timer
+  pub noTimer : Timers
+  -- what runs
+  pub running : Stored → Timers
+  -- whether the states of two records differ
+  pub changes : Stored → Stored → Bool
+  -- the timer that just ran out
+  pub ranOut : Event → Timers
+  -- a record is well formed under the settings
+  pub wellFormed : Settings → Stored → Bool
+  -- the row that is met refuses, with 8
+  pub RefusedByRow : Settings → Stored → Input → Type 0
+  -- what the row that is met sends
+  pub sent : Settings → Stored → Input → Send
+  -- the media that stands beside it: that of the next record
+  pub media : Settings → Stored → Input → Media
+  -- the answer of a step with a lent buffer
+  pub step : Settings → Stored → Input → List ℕ → Answer Stored Timers
+  -- the buffer after it
+  pub buffer : Settings → Stored → Input → List ℕ → List ℕ
+
+-- the line that the row that is met sends, no bytes where it sends nothing
+abbrev pub lineToSend : (M : Machine) → Settings → M .Stored → Input → List ℕ
+lineToSend M s p i = lineSent (M .sent s p i) (M .media s p i)
+
+-- a refusal: the record as it was, row 0, no timer, length 0
+abbrev pub refusedBy : (M : Machine) → ℕ → M .Stored → Answer (M .Stored) (M .Timers)
+refusedBy M number p = record { number = number; row = 0; next = p; stop = M .noTimer; start = M .noTimer; length = 0 }
+
+-- an input is refused with this number: nothing changes, and every byte of the buffer is as lent
+abbrev pub IsRefused : (M : Machine) → ℕ → Settings → M .Stored → Input → List ℕ → Type 0
+IsRefused M number s p i out = (M .step s p i out ≡ refusedBy M number p) × (M .buffer s p i out ≡ out)
+
+-- an input is discarded: number 0, row 0, the record as it was, no timer, length 0, and every byte of the buffer as lent
+abbrev pub IsDiscarded : (M : Machine) → Settings → M .Stored → Input → List ℕ → Type 0
+IsDiscarded M s p i out = IsRefused M 0 s p i out
+
+-- ---- what is asked of the steps of a machine
+
+-- from good settings and a well-formed record, whatever the input and the buffer, the next record is well formed
+abbrev pub KeepsWellFormed : Machine → Type 0
+KeepsWellFormed M =
+    (s : Settings) (p : M .Stored) (i : Input) (out : List ℕ) → settingsGood s ≡ true → M .wellFormed s p ≡ true
+    → M .wellFormed s (M .step s p i out .next) ≡ true
+
+-- where nothing ahead of sending is refused, that is neither 7, 9, 5 nor 8, the message that is sent is in range
+abbrev pub SendsGood : Machine → Type 0
+SendsGood M =
+    (s : Settings) (p : M .Stored) (i : Input) → settingsGood s ≡ true → M .wellFormed s p ≡ true → heardGood (i .event) (i .media) ≡ true
+    → argumentsGood s (i .event) (i .media) ≡ true → (M .RefusedByRow s p i → ⊥)
+    → (m : Message) → M .sent s p i ≡ Send.Message m → inRange m (M .media s p i) ≡ true
+
+-- a timer runs after a step that is not refused exactly if it was started, or ran before and was neither stopped nor ran out
+abbrev pub TimersAgree : Machine → Type 0
+TimersAgree M =
+    (s : Settings) (p : M .Stored) (i : Input) (out : List ℕ) → M .step s p i out .number ≡ 0 → (t : M .Timer)
+    → M .has (M .running (M .step s p i out .next)) t
+    ≡ runsAfter (M .has (M .running p) t) (M .has (M .step s p i out .stop) t) (M .has (M .ranOut (i .event)) t) (M .has (M .step s p i out .start) t)
+
+-- leaving a state stops each timer that runs there, if it is not started anew and did not just run out
+abbrev pub ChangeStops : Machine → Type 0
+ChangeStops M =
+    (s : Settings) (p : M .Stored) (i : Input) (out : List ℕ) → M .step s p i out .number ≡ 0 → (t : M .Timer)
+    → M .changes p (M .step s p i out .next) ≡ true → M .has (M .running p) t ≡ true → M .has (M .step s p i out .start) t ≡ false
+    → M .has (M .ranOut (i .event)) t ≡ false → M .has (M .step s p i out .stop) t ≡ true
+
+-- no step stops the timer whose expiry it is about
+abbrev pub SparesRanOut : Machine → Type 0
+SparesRanOut M =
+    (s : Settings) (p : M .Stored) (i : Input) (out : List ℕ) → M .step s p i out .number ≡ 0 → (t : M .Timer)
+    → M .has (M .ranOut (i .event)) t ≡ true → M .has (M .step s p i out .stop) t ≡ false
+
+-- ---- the private call machine
+
+-- 8 of a row: all that R1 asks holds, and the identifier that the user names is the stored one
+abbrev pub IdentifierStored : Settings → PrivateRecord → Input → Type 0
+IdentifierStored s p i = (rowOf s p i ≡ R1) × (requestOf s (i .event) .parties .identifier ≡ p .call .parties .identifier)
+
+-- the answer of its step
+abbrev pub privateAnswer : Stepped → Answer PrivateRecord PrivateTimers.Timers
+privateAnswer r = record { number = r .number; row = r .row; next = r .next; stop = r .stop; start = r .start; length = r .length }
+
+-- the machine
+abbrev pub privateMachine : Machine
+privateMachine =
+    record {
+      Stored = PrivateRecord;
+      Timers = PrivateTimers.Timers;
+      Timer = PrivateTimer;
+      has = Phases.has;
+      noTimer = Phases.noTimer;
+      running = λ p. p .running;
+      changes = λ p q. Carried.changes (p .state) (q .state);
+      ranOut = Carried.ranOut;
+      wellFormed = Formed.wellFormed;
+      RefusedByRow = IdentifierStored;
+      sent = λ s p i. doneOf s p i .sent;
+      media = λ s p i. doneOf s p i .next .call .media;
+      step = λ s p i out. privateAnswer (stepOf s p i out);
+      buffer = stepBuffer;
+    }
+
+-- ---- the group call machine
+
+-- 8 of a row: all that G9 asks holds, and now is not above the stored time of the last change
+abbrev pub ChangeNotLater : Settings → GroupRecord → Input → Type 0
+ChangeNotLater s g i = (GroupRows.rowOf s g (i .event) ≡ G9) × (announcedOf s (i .event) .call .«last_change» ≤ g .call .«last_change»)
+
+-- the answer of its step
+abbrev pub groupAnswer : GroupStepped.Stepped → Answer GroupRecord GroupTimers.Timers
+groupAnswer r = record { number = r .number; row = r .row; next = r .next; stop = r .stop; start = r .start; length = r .length }
+
+-- the machine
+abbrev pub groupMachine : Machine
+groupMachine =
+    record {
+      Stored = GroupRecord;
+      Timers = GroupTimers.Timers;
+      Timer = GroupTimer;
+      has = GroupStates.has;
+      noTimer = GroupStates.noTimer;
+      running = λ g. g .running;
+      changes = λ g h. GroupCarried.changes (g .state) (h .state);
+      ranOut = GroupCarried.ranOut;
+      wellFormed = GroupFormed.wellFormed;
+      RefusedByRow = ChangeNotLater;
+      sent = λ s g i. GroupStep.doneOf s g i .sent;
+      media = λ s g i. GroupStep.doneOf s g i .next .media;
+      step = λ s g i out. groupAnswer (GroupStep.stepOf s g i out);
+      buffer = GroupStep.stepBuffer;
+    }

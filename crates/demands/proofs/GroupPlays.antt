@@ -5,8 +5,8 @@ use Rattle.frame.specs.Frame.{partiesGood, setupGood, groupCallGood, acceptance
 use Rattle.frame.specs.Layout.{digitsOf, frameInHex, lineOf}
 use Rattle.frame.specs.Writing.{writeNumber}
 use Rattle.call.specs.Settings.{settingsGood}
-use Rattle.group_call.specs.Formed.{wellFormed}
-use Rattle.group_call.specs.Rows.{rowIn}
+use Rattle.group_rows.specs.Formed.{wellFormed}
+use Rattle.group_rows.specs.Rows.{rowIn}
 use Rattle.group_call.specs.Carried.{stoppedOf, runningAfter, carryOut}
 use Rattle.group_call.specs.Step.{stepOf, stepBuffer}
 use Rattle.demands.specs.Machines.{groupMachine}

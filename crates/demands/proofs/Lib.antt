@@ -10,3 +10,4 @@ pub mod Strays
 pub mod Machines
 pub mod GroupMachine
 pub mod GroupPlays
+pub mod Choosing

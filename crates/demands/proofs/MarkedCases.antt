@@ -1,5 +1,5 @@
 -- The marked cases hold. Assumes nothing.
-use mathlib.Core.Path.{_≡_, refl, sym, ap, _∙_}
+use mathlib.Core.Path.{_≡_, refl, sym, ap, _∙_, subst}
 use mathlib.Core.List.{List, [], _∷_}
 use mathlib.Core.Bool.{Bool, true, false, not, _&&_}
 use Prim.Native.Nat.{ℕ, zero, suc, _<_}
@@ -7,7 +7,7 @@ use native.Mathlib.Nat.{not-suc-le-zero}
 use native.Mathlib.Omega.{arith}
 use lib.ListN.{length, set, replicate, length-replicate}
 use lib.Dec.{ltb, eqb}
-use borrow.Author.Tests.{eqb-true, eqb-false}
+use borrow.Author.Tests.{eqb-true, eqb-false, eq-eqb, ne-eqb}
 use Rattle.frame.specs.Number.{firstGiven}
 use Rattle.frame.specs.Digits.{allDigits, inHex, numberAt, allInHex, numbersAt}
 use Rattle.frame.specs.Frame.{partiesGood, setupGood, groupCallGood, acceptanceGood, inRange}
@@ -31,10 +31,23 @@ use Rattle.private_effects.specs.Carried.{startedOf, stoppedOf, runningAfter, c
 use Rattle.private_call.specs.Step.{stepOf}
 use Rattle.private_call.specs.declared.Stepped.{Stepped}
 use Rattle.private_call.proofs.MarkedSteps.{expiry-discarded, second-accept, last-expiry}
-use Rattle.demands.specs.Machines.{privateAnswer, privateMachine}
+use Rattle.group_order.specs.Order.{rankOf}
+use Rattle.group_order.proofs.Order.{asymmetric, by-rank, by-identifier}
+use Rattle.chooser.specs.Choice.{choiceOf, choiceNumber}
+use Rattle.group_rows.specs.Formed as GroupFormed
+use Rattle.group_rows.specs.Rows as GroupRows
+use Rattle.group_rows.specs.declared.states.GroupRecord.{GroupRecord}
+use Rattle.group_call.specs.Carried as GroupCarried
+use Rattle.group_call.specs.Step as GroupStep
+use Rattle.group_call.specs.Hearing.{hears}
+use Rattle.group_call.specs.declared.Stepped as GroupStepped
+use Rattle.group_call.proofs.Merging.{ongoing-is, better-joined}
+use Rattle.demands.specs.Machines.{privateAnswer, privateMachine, groupMachine}
 use Rattle.demands.specs.MarkedCases.{spoilt, writes, expiryDiscarded, Holds, reading-holds, spoilt-holds, writing-holds, ringing, setup, table, AllHold}
 use Rattle.demands.specs.Played.{crewWith, crew, ours, theirs, cfp1At, stored, does, expires}
+use Rattle.demands.specs.GroupPlayed.{mine, heard, goesOn, announces}
 use Rattle.demands.specs.MarkedCases.{steps, step-holds, last-expiry-holds, second-discarded-holds, expiry-discarded-holds}
+use Rattle.demands.specs.MarkedCases.{merges, lowerWins, typeBeats, merges-holds, lower-wins-holds, type-beats-holds, choosing-holds}
 
 -- a test that is computed at each number below n, and what it shows of each
 below : ℕ → (ℕ → Bool) → Bool
@@ -89,8 +102,37 @@ step-G : Holds (steps privateMachine crew (stored Phase.P4 noCounters ours) (exp
 unfolding stepOf settingsGood wellFormed rowIn carryOut startedOf stoppedOf runningAfter countersAfter inRange partiesGood setupGood
 step-G = step-holds refl refl
 
+-- case H, for every record
+better-joins : Holds (merges 1 2 10)
+better-joins =
+    merges-holds (λ s g call confirm media v out h w e basic r own f emergency.
+    let is = ongoing-is s g w e in
+    let w' = subst (λ (x : GroupRecord). GroupFormed.wellFormed s x ≡ true) is w in
+    let rank : rankOf (call .«call_type») < rankOf (g .call .«call_type») = rw (emergency, basic) (omega arith) in
+    let step = better-joined s (g .call) (g .media) call confirm media v out h w' r (eq-eqb _ _ own) (ne-eqb _ _ f) (by-rank call (g .call) rank) in
+    ap (λ (x : GroupRecord). GroupStep.stepOf s x (hears call confirm media v) out .row) is ∙ ap (λ (x : GroupStepped.Stepped). x .row) (step .0))
+
+-- case H, for a record
+step-H : Holds (steps groupMachine crew (goesOn (mine 1)) (announces (heard 2) 0) [] 0 10)
+unfolding GroupStep.stepOf settingsGood GroupFormed.wellFormed GroupRows.rowIn GroupCarried.carryOut GroupCarried.stoppedOf GroupCarried.runningAfter inRange groupCallGood
+step-H = step-holds refl refl
+
+-- case I, for every two calls
+lower-wins : Holds (lowerWins 16 17)
+lower-wins =
+    lower-wins-holds (λ a b r s x y.
+    let low : a .identifier < b .identifier = rw (x, y) (omega arith) in
+    let is = by-identifier a b r s low in (is, asymmetric a b is))
+
+-- case J, for every two calls
+emergency-wins : Holds (typeBeats 2 3)
+emergency-wins =
+    type-beats-holds (λ a b x y.
+    let rank : rankOf (a .«call_type») < rankOf (b .«call_type») = rw (x, y) (omega arith) in
+    let is = by-rank a b rank in (is, asymmetric a b is))
+
 -- every marked case holds
 pub marked-cases : AllHold table
-unfolding below AllHold table ringing setup readLine refusalOf messageAt mediaAt numbersAt numberAt digitsOf allDigits inRange partiesGood setupGood groupCallGood acceptanceGood writeNumber lineOf frameInHex allInHex inHex
+unfolding below AllHold table ringing setup readLine refusalOf messageAt mediaAt numbersAt numberAt digitsOf allDigits inRange partiesGood setupGood groupCallGood acceptanceGood writeNumber lineOf frameInHex allInHex inHex choiceNumber choiceOf
 marked-cases =
-    (reading-holds refl, (everywhere refl, (reading-holds refl, (reading-holds refl, (last-expiry-holds last-expiry, (step-E, (second-discarded-holds (λ s p media media' v v' out out' e. answers (second-accept s p media media' v v' out out' e)), (step-F, (quiet (λ w. refl), (step-G, (by-length refl, (by-length refl, (reading-holds refl, (by-length refl, (reading-holds refl, (by-length refl, tt))))))))))))))))
+    (reading-holds refl, (everywhere refl, (reading-holds refl, (reading-holds refl, (last-expiry-holds last-expiry, (step-E, (second-discarded-holds (λ s p media media' v v' out out' e. answers (second-accept s p media media' v v' out out' e)), (step-F, (quiet (λ w. refl), (step-G, (better-joins, (step-H, (lower-wins, (choosing-holds refl refl, (choosing-holds refl refl, (emergency-wins, (choosing-holds refl refl, (by-length refl, (by-length refl, (reading-holds refl, (by-length refl, (reading-holds refl, (by-length refl, tt)))))))))))))))))))))))

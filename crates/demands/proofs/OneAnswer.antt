@@ -15,10 +15,19 @@ use Rattle.call.proofs.requests.private_request.Reads as private-request
 use Rattle.call.proofs.write_sent.Reads as write-sent
 use Rattle.private_rows.proofs.well_formed.Reads as well-formed
 use Rattle.private_rows.proofs.row_of.Reads as row-of
-use Rattle.private_rows.proofs.rows.row_number.Reads as row-number
 use Rattle.private_rows.proofs.states.cleared_record.Reads as cleared-record
 use Rattle.private_effects.proofs.carry_out.Reads as carry-out
 use Rattle.private_call.proofs.step.Reads as step
+use Rattle.call.proofs.announced_of.Reads as announced-of
+use Rattle.group_order.proofs.rank.Reads as rank
+use Rattle.group_order.proofs.better.Reads as better
+use Rattle.chooser.proofs.choose_number.Reads as choose-number
+use Rattle.chooser.proofs.choose.Reads as choose
+use Rattle.chooser.specs.Choice.{place}
+use Rattle.group_rows.proofs.well_formed.Reads as group-well-formed
+use Rattle.group_rows.proofs.row_of.Reads as group-row-of
+use Rattle.group_rows.proofs.states.cleared_record.Reads as group-cleared-record
+use Rattle.group_call.proofs.step.Reads as group-step
 
 -- what equals the same thing is equal
 same : {A : Type 0} {x a b : A} → a ≡ x → b ≡ x → a ≡ b
@@ -76,10 +85,6 @@ well-formed-one κs a r q s t x y = same x y
 pub row-of-one : (κs : Lifetimes.Lfts 0) (a : _) (r q : _) (s t : _) → row-of.Learnt κs a r s → row-of.Learnt κs a q t → r ≡ q
 row-of-one κs a r q s t x y = same x y
 
--- a row's number
-pub row-number-one : (κs : Lifetimes.Lfts 0) (a : _) (r q : _) (s t : _) → row-number.Learnt κs a r s → row-number.Learnt κs a q t → r ≡ q
-row-number-one κs a r q s t x y = same x y
-
 -- the cleared record
 pub cleared-record-one : (κs : Lifetimes.Lfts 0) (a : _) (r q : _) (s t : _) → cleared-record.Learnt κs a r s → cleared-record.Learnt κs a q t → r ≡ q
 cleared-record-one κs a r q s t x y = same x y
@@ -91,3 +96,39 @@ carry-out-one κs a r q s t x y = same x y
 -- the answer of a step, and the buffer
 pub step-one : (κs : Lifetimes.Lfts 1) (a : _) (r q : _) (s t : _) → step.Learnt κs a r s → step.Learnt κs a q t → (r ≡ q) × (s .1 .1 .1 .0 .now ≡ t .1 .1 .1 .0 .now)
 step-one κs a r q s t x y = (same (x .0) (y .0), same (x .1) (y .1))
+
+-- the announcement that an event brings
+pub announced-of-one : (κs : Lifetimes.Lfts 0) (a : _) (r q : _) (s t : _) → announced-of.Learnt κs a r s → announced-of.Learnt κs a q t → r ≡ q
+announced-of-one κs a r q s t x y = same x y
+
+-- the rank of a type
+pub rank-one : (κs : Lifetimes.Lfts 0) (a : _) (r q : _) (s t : _) → rank.Learnt κs a r s → rank.Learnt κs a q t → r ≡ q
+rank-one κs a r q s t x y = same x y
+
+-- whether a call is better
+pub better-one : (κs : Lifetimes.Lfts 0) (a : _) (r q : _) (s t : _) → better.Learnt κs a r s → better.Learnt κs a q t → r ≡ q
+better-one κs a r q s t x y = same x y
+
+-- the number of the chooser's question
+pub choose-number-one : (κs : Lifetimes.Lfts 2) (a : _) (r q : _) (s t : _) → choose-number.Learnt κs a r s → choose-number.Learnt κs a q t → r ≡ q
+choose-number-one κs a r q s t x y = same x y
+
+-- the place and the bytes of the line chosen
+pub choose-one : (κs : Lifetimes.Lfts 1) (a : _) (r q : _) (s t : _) → choose.Learnt κs a r s → choose.Learnt κs a q t → place r ≡ place q
+choose-one κs a r q s t x y = same x y
+
+-- whether a group record is well formed
+pub group-well-formed-one : (κs : Lifetimes.Lfts 0) (a : _) (r q : _) (s t : _) → group-well-formed.Learnt κs a r s → group-well-formed.Learnt κs a q t → r ≡ q
+group-well-formed-one κs a r q s t x y = same x y
+
+-- the group row that an event meets
+pub group-row-of-one : (κs : Lifetimes.Lfts 0) (a : _) (r q : _) (s t : _) → group-row-of.Learnt κs a r s → group-row-of.Learnt κs a q t → r ≡ q
+group-row-of-one κs a r q s t x y = same x y
+
+-- the cleared group record
+pub group-cleared-record-one : (κs : Lifetimes.Lfts 0) (a : _) (r q : _) (s t : _) → group-cleared-record.Learnt κs a r s → group-cleared-record.Learnt κs a q t → r ≡ q
+group-cleared-record-one κs a r q s t x y = same x y
+
+-- the answer of a step of the group call machine, and the buffer
+pub group-step-one : (κs : Lifetimes.Lfts 1) (a : _) (r q : _) (s t : _) → group-step.Learnt κs a r s → group-step.Learnt κs a q t → (r ≡ q) × (s .1 .1 .1 .0 .now ≡ t .1 .1 .1 .0 .now)
+group-step-one κs a r q s t x y = (same (x .0) (y .0), same (x .1) (y .1))

@@ -7,10 +7,11 @@ use Prim.Native.Nat.{ℕ, suc, _*_, _-_, _<_, _≤_}
 use lib.ListN.{length, getD}
 use Rattle.frame.specs.Frame.{inRange}
 use Rattle.frame.specs.Layout.{lineOf}
-use Rattle.frame.specs.Line.{messageAt, mediaAt, kindAt}
+use Rattle.frame.specs.Line.{messageAt, mediaAt, kindAt, lineNumber}
 use Rattle.frame.specs.declared.Media.{Media}
 use Rattle.frame.specs.declared.Message.{Message}
 use Rattle.log.specs.Answer.{answerOf}
+use Rattle.chooser.specs.NoChoice.{NoChoice}
 use Rattle.call.specs.Settings.{settingsGood}
 use Rattle.call.specs.Numbers.{heardGood, argumentsGood}
 use Rattle.call.specs.declared.Settings.{Settings}
@@ -67,6 +68,18 @@ writeTable m media out = (5, inRange m media ≡ false) ∷ (6, length out < len
 -- its table
 abbrev pub answerTable : List ℕ → List ℕ → List (ℕ × Type 0)
 answerTable log out = (6, length out < length (answerOf log)) ∷ []
+
+-- ---- the chooser between two lines
+
+-- 1 to 5: the first line has this number, or the first is readable and the second has it
+abbrev pub LineRefused : ℕ → List ℕ → List ℕ → Type 0
+LineRefused n first second = (lineNumber first ≡ n) ⊎ ((lineNumber first ≡ 0) × (lineNumber second ≡ n))
+
+-- its table; 10: a line is no announcement, the groups differ, or the identifiers are equal
+abbrev pub choiceTable : List ℕ → List ℕ → List (ℕ × Type 0)
+choiceTable first second =
+    (1, LineRefused 1 first second) ∷ (2, LineRefused 2 first second) ∷ (3, LineRefused 3 first second) ∷ (4, LineRefused 4 first second)
+    ∷ (5, LineRefused 5 first second) ∷ (10, NoChoice first second) ∷ []
 
 -- ---- a step of a call machine
 

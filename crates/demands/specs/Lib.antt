@@ -4,8 +4,8 @@ pub mod Machines
 pub mod ExactlyWhen
 pub mod NothingChanges
 pub mod Played
+pub mod GroupPlayed
 pub mod MarkedCases
 pub mod RowPlays
 pub mod Strays
-pub mod GroupPlayed
 pub mod GroupPlays

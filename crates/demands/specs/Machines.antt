@@ -27,14 +27,14 @@ use Rattle.private_rows.specs.declared.rows.Row.the-variants.{R1}
 use Rattle.private_effects.specs.Carried as Carried
 use Rattle.private_call.specs.Step.{doneOf, stepOf, stepBuffer}
 use Rattle.private_call.specs.declared.Stepped.{Stepped}
-use Rattle.group_call.specs.States as GroupStates
-use Rattle.group_call.specs.Formed as GroupFormed
-use Rattle.group_call.specs.Rows as GroupRows
+use Rattle.group_rows.specs.States as GroupStates
+use Rattle.group_rows.specs.Formed as GroupFormed
+use Rattle.group_rows.specs.Rows as GroupRows
 use Rattle.group_call.specs.Carried as GroupCarried
 use Rattle.group_call.specs.Step as GroupStep
-use Rattle.group_call.specs.declared.states.Timers as GroupTimers
-use Rattle.group_call.specs.declared.states.GroupRecord.{GroupRecord}
-use Rattle.group_call.specs.declared.rows.Row.the-variants.{G9}
+use Rattle.group_rows.specs.declared.states.Timers as GroupTimers
+use Rattle.group_rows.specs.declared.states.GroupRecord.{GroupRecord}
+use Rattle.group_rows.specs.declared.rows.Row.the-variants.{G9}
 use Rattle.group_call.specs.declared.Stepped as GroupStepped
 
 -- ---- a machine

@@ -6,11 +6,13 @@ use Prim.Native.Nat.{ℕ, _<_}
 use Prim.Native.String.{String}
 use lib.ListN.{length, set, replicate}
 use Rattle.frame.specs.Media.{noMedia}
+use Rattle.frame.specs.Frame.{inRange}
 use Rattle.frame.specs.Line.{count, lineNumber, readLine, reading, refusal}
 use Rattle.frame.specs.Writing.{writeNumber}
 use Rattle.frame.specs.declared.Media.{Media}
 use Rattle.frame.specs.declared.Message.{Message}
-use Rattle.frame.specs.declared.Message.the-variants.{SetupRequest, Ringing}
+use Rattle.frame.specs.declared.GroupCall.{GroupCall}
+use Rattle.frame.specs.declared.Message.the-variants.{SetupRequest, Ringing, Announcement}
 use Rattle.frame.specs.declared.Reading.{Reading}
 use Rattle.call.specs.Settings.{noCounters, settingsGood}
 use Rattle.call.specs.declared.Settings.{Settings}
@@ -24,9 +26,17 @@ use Rattle.private_rows.specs.declared.states.Phase.{Phase}
 use Rattle.private_rows.specs.declared.states.PrivateRecord.{PrivateRecord}
 use Rattle.private_call.specs.Step.{stepOf}
 use Rattle.private_call.specs.Running.{expiry, userAccepts}
+use Rattle.group_order.specs.Order.{rankOf, isBetter}
+use Rattle.chooser.specs.Choice.{choiceOf, choiceNumber}
+use Rattle.group_rows.specs.Formed as GroupFormed
+use Rattle.group_rows.specs.declared.states.State as GroupState
+use Rattle.group_rows.specs.declared.states.GroupRecord.{GroupRecord}
+use Rattle.group_call.specs.Step as GroupStep
+use Rattle.group_call.specs.Hearing as Hearing
 use Rattle.demands.specs.Text.{bytes}
-use Rattle.demands.specs.Machines.{Machine, IsDiscarded, privateMachine}
+use Rattle.demands.specs.Machines.{Machine, IsDiscarded, privateMachine, groupMachine}
 use Rattle.demands.specs.Played.{crewWith, crew, five, ours, theirs, cfp1At, stored, does, expires}
+use Rattle.demands.specs.GroupPlayed.{mine, heard, goesOn, announces}
 
 -- what a case says
 pub data Case : Type 1 where
@@ -44,6 +54,15 @@ pub data Case : Type 1 where
   secondDiscarded : ℕ → Case
   -- from every well-formed record in this state, the expiry of this timer is discarded
   expiryDiscarded : State → PrivateTimer → Case
+  -- from every well-formed record in S3 with a call of the one type, an announcement of the own group with a call of the other type and
+  -- another identifier, whatever the two starts are, meets this row
+  merges : ℕ → ℕ → ℕ → Case
+  -- of two calls with equal rank and start, the one with this identifier is better than the one with that
+  lowerWins : ℕ → ℕ → Case
+  -- a call of this type is better than any of that
+  typeBeats : ℕ → ℕ → Case
+  -- of two lines this one is chosen, 1 or 2
+  chooses : List ℕ → List ℕ → ℕ → Case
 
 -- a case holds
 pub data Holds : Case → Type 1 where
@@ -65,6 +84,20 @@ pub data Holds : Case → Type 1 where
       → ((s : Settings) (p : PrivateRecord) (media : Media) (v : Verdicts) (out : List ℕ) → settingsGood s ≡ true → wellFormed s p ≡ true
       → p .state ≡ state → IsDiscarded privateMachine s p (expiry timer media v) out)
       → Holds (expiryDiscarded state timer)
+  merges-holds : {type other row : ℕ}
+      → ((s : Settings) (g : GroupRecord) (call : GroupCall) (confirm : ℕ) (media : Media) (v : Verdicts) (out : List ℕ) → settingsGood s ≡ true
+      → GroupFormed.wellFormed s g ≡ true → g .state ≡ GroupState.State.S3 → g .call .«call_type» ≡ type → inRange (Announcement call confirm) media ≡ true
+      → call .group ≡ s .«own_group» → (call .identifier ≡ g .call .identifier → ⊥) → call .«call_type» ≡ other
+      → GroupStep.stepOf s g (Hearing.hears call confirm media v) out .row ≡ row)
+      → Holds (merges type other row)
+  lower-wins-holds : {low high : ℕ}
+      → ((a b : GroupCall) → rankOf (a .«call_type») ≡ rankOf (b .«call_type») → a .start ≡ b .start → a .identifier ≡ low → b .identifier ≡ high
+      → (isBetter a b ≡ true) × (isBetter b a ≡ false))
+      → Holds (lowerWins low high)
+  type-beats-holds : {type other : ℕ}
+      → ((a b : GroupCall) → a .«call_type» ≡ type → b .«call_type» ≡ other → (isBetter a b ≡ true) × (isBetter b a ≡ false))
+      → Holds (typeBeats type other)
+  choosing-holds : {first second : List ℕ} {n : ℕ} → choiceNumber first second ≡ 0 → choiceOf first second ≡ n → Holds (chooses first second n)
 
 -- RINGING of call 1234 (hexadecimal), caller 7, callee 9
 unfoldable pub ringing : Message
@@ -76,7 +109,7 @@ setup k =
     SetupRequest (record { identifier = 0x1234; caller = 7; callee = 9 })
     (record { commencement = 0; «call_type» = 4; «pck_id» = k })
 
--- the cases by their letters; E, F and G for every record, and each for one, so that there is one
+-- the cases by their letters; E to H for every record and I and J for every call, and each for one, so that there is one
 unfoldable pub table : List (String × Case)
 table =
     ("A", reads (bytes "0212340000000700000009\n") (reading ringing noMedia))
@@ -89,6 +122,13 @@ table =
     ∷ ("F", steps privateMachine crew (stored Phase.P5Tfp2 noCounters theirs) (does PrivateAction.Accept) (replicate 31 0) 0 23)
     ∷ ("G", expiryDiscarded State.P4 PrivateTimer.Tfp7)
     ∷ ("G", steps privateMachine crew (stored Phase.P4 noCounters ours) (expires PrivateTimer.Tfp7) [] 0 0)
+    ∷ ("H", merges 1 2 10)
+    ∷ ("H", steps groupMachine crew (goesOn (mine 1)) (announces (heard 2) 0) [] 0 10)
+    ∷ ("I", lowerWins 16 17)
+    ∷ ("I", chooses (bytes "0800100000000301001e0000000500000007000003e8000003e80000000700\n") (bytes "0800110000000301001e0000000500000007000003e8000003e80000000700\n") 1)
+    ∷ ("I", chooses (bytes "0800110000000301001e0000000500000007000003e8000003e80000000700\n") (bytes "0800100000000301001e0000000500000007000003e8000003e80000000700\n") 2)
+    ∷ ("J", typeBeats 2 3)
+    ∷ ("J", chooses (bytes "0800100000000303001e0000000500000007000003e8000003e80000000700\n") (bytes "0800110000000302001e0000000500000007000007d0000007d00000000700\n") 2)
     ∷ ("K", writes ringing noMedia 22 6)
     ∷ ("K", writes ringing noMedia 23 0)
     ∷ ("L", reads (bytes "011234000000070000000900040000000530000000\n") (reading (setup 0x3000_0000) five))

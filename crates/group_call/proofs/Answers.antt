@@ -1,17 +1,17 @@
 -- The cases of a step: refused by a test, refused by G9, refused by the writer, carried out. Assumes nothing.
 use Prim.Native.Nat.{ℕ}
-use mathlib.Core.Path.{_≡_}
+use mathlib.Core.Path.{_≡_, ap, _∙_}
 use mathlib.Core.List.{List}
 use mathlib.Core.Bool.{Bool, true, false}
 use lib.ListN.{length}
 use Rattle.call.specs.Numbers.{numberBeforeRow}
-use Rattle.call.specs.Sending.{sendNumber, sendBuffer}
+use Rattle.call.specs.Sending.{sendNumber, sendTold, sendBuffer}
 use Rattle.call.specs.declared.Settings.{Settings}
 use Rattle.call.specs.declared.Input.{Input}
 use Rattle.call.proofs.Answers as answers
-use Rattle.group_call.specs.Formed.{wellFormed}
-use Rattle.group_call.specs.Rows.{rowOf}
-use Rattle.group_call.specs.declared.states.GroupRecord.{GroupRecord}
+use Rattle.group_rows.specs.Formed.{wellFormed}
+use Rattle.group_rows.specs.Rows.{rowOf}
+use Rattle.group_rows.specs.declared.states.GroupRecord.{GroupRecord}
 use Rattle.group_call.specs.Step.{changeTooEarly, doneOf, stepLine, refusedOf, movedOf, stepOf, stepBuffer}
 use Rattle.group_call.specs.declared.Stepped.{Stepped}
 
@@ -58,8 +58,10 @@ module _ (s : Settings) (g : GroupRecord) (i : Input) (out : List ℕ) where
   refused-sending =
       answers.refused-sending s (wellFormed s g) i early (doneOf s g i .sent) (doneOf s g i .next .media) out (λ n. refusedOf n g) moved
 
-  -- carried out
-  pub carried-out : before ≡ 0 → early ≡ false → writers ≡ 0 → Answers moved left
+  -- carried out, with the length that the writer tells
+  pub carried-out : before ≡ 0 → early ≡ false → writers ≡ 0
+      → Answers (movedOf (rowOf s g (i .event)) (doneOf s g i) (sendTold (doneOf s g i .sent) (doneOf s g i .next .media) out .length)) left
   unfolding stepOf stepBuffer
-  carried-out =
-      answers.carried-out s (wellFormed s g) i early (doneOf s g i .sent) (doneOf s g i .next .media) out (λ n. refusedOf n g) moved
+  carried-out e t w =
+      let r = answers.carried-out s (wellFormed s g) i early (doneOf s g i .sent) (doneOf s g i .next .media) out (λ n. refusedOf n g) moved e t w in
+      (ap (movedOf (rowOf s g (i .event)) (doneOf s g i)) (answers.told-length (doneOf s g i .sent) (doneOf s g i .next .media) out w) ∙ r .0, r .1)

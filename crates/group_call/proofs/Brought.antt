@@ -22,12 +22,12 @@ use Rattle.call.specs.declared.GroupAction.{GroupAction}
 use Rattle.call.specs.declared.Action.{Action}
 use Rattle.call.specs.declared.Event.{Event}
 use Rattle.call.specs.declared.Announced.{Announced}
-use Rattle.group_call.specs.States.{noTimer, tfg2, tfg4, tfg6}
-use Rattle.group_call.specs.Causes.{announcementCause, causeOf}
-use Rattle.group_call.specs.Rows.{sameCause}
+use Rattle.group_rows.specs.States.{noTimer, tfg2, tfg4, tfg6}
+use Rattle.group_rows.specs.Causes.{announcementCause, causeOf}
+use Rattle.group_rows.specs.Rows.{sameCause}
 use Rattle.group_call.specs.Carried.{ranOut}
-use Rattle.group_call.specs.declared.states.Timers.{Timers}
-use Rattle.group_call.specs.declared.causes.Cause.{Cause}
+use Rattle.group_rows.specs.declared.states.Timers.{Timers}
+use Rattle.group_rows.specs.declared.causes.Cause.{Cause}
 use Rattle.group_call.proofs.Holding.{Ranged, ranged}
 
 -- ---- the timer that ran out

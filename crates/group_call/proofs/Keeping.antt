@@ -18,17 +18,17 @@ use Rattle.call.specs.declared.Announced.{Announced}
 use Rattle.call.specs.declared.Send.{Send}
 use Rattle.call.proofs.Laws.{both, beq-same}
 use Rattle.call.proofs.Stepping.{Taken, SentGood}
-use Rattle.group_call.specs.States.{sameTimers, runningOf}
-use Rattle.group_call.specs.Formed.{callNone, callHeld, callGood, wellFormed}
-use Rattle.group_call.specs.Causes.{isLater, causeOf, factsOf}
-use Rattle.group_call.specs.Rows.{rowOf}
+use Rattle.group_rows.specs.States.{sameTimers, runningOf}
+use Rattle.group_rows.specs.Formed.{callNone, callHeld, callGood, wellFormed}
+use Rattle.group_rows.specs.Causes.{causeOf, factsOf}
+use Rattle.group_rows.specs.Rows.{rowOf}
 use Rattle.group_call.specs.Effects.{effectOf}
-use Rattle.group_call.specs.Carried.{ranOut, runningBy, changedBy, heldOf, mediaHeld, sentOf, carryOut}
-use Rattle.group_call.specs.declared.states.State.{State}
-use Rattle.group_call.specs.declared.states.Timers.{Timers}
-use Rattle.group_call.specs.declared.states.GroupRecord.{GroupRecord}
-use Rattle.group_call.specs.declared.causes.Cause.{Cause}
-use Rattle.group_call.specs.declared.rows.Row.{Row}
+use Rattle.group_call.specs.Carried.{isLater, ranOut, runningBy, changedBy, heldOf, mediaHeld, sentOf, carryOut}
+use Rattle.group_rows.specs.declared.states.State.{State}
+use Rattle.group_rows.specs.declared.states.Timers.{Timers}
+use Rattle.group_rows.specs.declared.states.GroupRecord.{GroupRecord}
+use Rattle.group_rows.specs.declared.causes.Cause.{Cause}
+use Rattle.group_rows.specs.declared.rows.Row.{Row}
 use Rattle.group_call.specs.declared.effects.Hold.{Hold}
 use Rattle.group_call.specs.declared.effects.Say.{Say}
 use Rattle.group_call.specs.declared.effects.Effect.{Effect}

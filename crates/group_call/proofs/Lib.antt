@@ -1,6 +1,4 @@
 pub mod Answers
-pub mod Everywhere
-pub mod Meets
 pub mod Holding
 pub mod Brought
 pub mod Settling

@@ -1,7 +1,7 @@
 -- What carrying out a row gives: the general rules, over all rows. Assumes nothing.
 use Prim.Native.Nat.{ℕ}
 use mathlib.Core.Bool.{Bool, cond, not}
-use lib.Dec.{eqb}
+use lib.Dec.{eqb, ltb}
 use Rattle.frame.specs.Media.{noMedia}
 use Rattle.frame.specs.declared.Media.{Media}
 use Rattle.frame.specs.declared.GroupCall.{GroupCall}
@@ -16,13 +16,12 @@ use Rattle.call.specs.declared.Event.{Event}
 use Rattle.call.specs.declared.Input.{Input}
 use Rattle.call.specs.declared.Announced.{Announced}
 use Rattle.call.specs.declared.Send.{Send}
-use Rattle.group_call.specs.States.{stateNumber, has, setOf, noTimer, tfg2, tfg4, tfg6}
-use Rattle.group_call.specs.Causes.{isLater}
+use Rattle.group_rows.specs.States.{stateNumber, has, setOf, noTimer, tfg2, tfg4, tfg6}
 use Rattle.group_call.specs.Effects.{effectOf}
-use Rattle.group_call.specs.declared.states.State.{State}
-use Rattle.group_call.specs.declared.states.Timers.{Timers}
-use Rattle.group_call.specs.declared.states.GroupRecord.{GroupRecord}
-use Rattle.group_call.specs.declared.rows.Row.{Row}
+use Rattle.group_rows.specs.declared.states.State.{State}
+use Rattle.group_rows.specs.declared.states.Timers.{Timers}
+use Rattle.group_rows.specs.declared.states.GroupRecord.{GroupRecord}
+use Rattle.group_rows.specs.declared.rows.Row.{Row}
 use Rattle.group_call.specs.declared.effects.Hold.{Hold}
 use Rattle.group_call.specs.declared.effects.Say.{Say}
 use Rattle.group_call.specs.declared.effects.Effect.{Effect}
@@ -60,6 +59,10 @@ unfoldable pub runningAfter : Timers → Timers → Timers → Timers → Timers
 runningAfter was stopped out started = setOf (λ t. runsAfter (has was t) (has stopped t) (has out t) (has started t))
 
 -- ---- the call
+
+-- the last change is later than the stored one
+abbrev pub isLater : GroupCall → GroupCall → Bool
+isLater brought stored = ltb (stored .«last_change») (brought .«last_change»)
 
 -- the stored call with the type, the time of the last change and the changer of another, and nothing else of it
 abbrev pub changedBy : GroupCall → GroupCall → GroupCall

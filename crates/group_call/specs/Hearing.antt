@@ -6,9 +6,9 @@ use Rattle.frame.specs.declared.Message.the-variants.{Announcement}
 use Rattle.call.specs.declared.Verdicts.{Verdicts}
 use Rattle.call.specs.declared.Event.{Event}
 use Rattle.call.specs.declared.Input.{Input}
-use Rattle.group_call.specs.States.{tfg2And6}
-use Rattle.group_call.specs.declared.states.State.{State}
-use Rattle.group_call.specs.declared.states.GroupRecord.{GroupRecord}
+use Rattle.group_rows.specs.States.{tfg2And6}
+use Rattle.group_rows.specs.declared.states.State.{State}
+use Rattle.group_rows.specs.declared.states.GroupRecord.{GroupRecord}
 
 -- a record in S3 that holds this call
 abbrev pub ongoing : GroupCall → Media → GroupRecord

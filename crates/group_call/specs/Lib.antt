@@ -1,8 +1,3 @@
-pub mod States
-pub mod Formed
-pub mod Causes
-pub mod Rows
-pub mod Found
 pub mod Effects
 pub mod Carried
 pub mod Step

@@ -11,13 +11,12 @@ use Rattle.call.specs.Sending.{lineSent, numberSending}
 use Rattle.call.specs.declared.Settings.{Settings}
 use Rattle.call.specs.declared.Event.{Event}
 use Rattle.call.specs.declared.Input.{Input}
-use Rattle.group_call.specs.States.{noTimer}
-use Rattle.group_call.specs.Formed.{wellFormed}
-use Rattle.group_call.specs.Causes.{isLater}
-use Rattle.group_call.specs.Rows.{rowNumber, rowOf}
-use Rattle.group_call.specs.Carried.{carryOut}
-use Rattle.group_call.specs.declared.states.GroupRecord.{GroupRecord}
-use Rattle.group_call.specs.declared.rows.Row.{Row}
+use Rattle.group_rows.specs.States.{noTimer}
+use Rattle.group_rows.specs.Formed.{wellFormed}
+use Rattle.group_rows.specs.Rows.{rowNumber, rowOf}
+use Rattle.group_call.specs.Carried.{isLater, carryOut}
+use Rattle.group_rows.specs.declared.states.GroupRecord.{GroupRecord}
+use Rattle.group_rows.specs.declared.rows.Row.{Row}
 use Rattle.group_call.specs.declared.settled.Carried.{Carried}
 use Rattle.group_call.specs.declared.Stepped.{Stepped}
 

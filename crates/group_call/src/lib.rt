@@ -1,22 +1,13 @@
 // The group call machine: one step.
-mod causes;
 mod effects;
-mod formed;
-mod rows;
 mod settled;
-pub mod states;
 
 ghost use mathlib.Core.Path.{_≡_};
+ghost use Rattle.group_rows.specs.Rows.{rowNumber};
 ghost use Rattle.group_call.specs.Step.{changeTooEarly, refusedOf, movedOf, stepOf, stepBuffer};
-use crate::causes::later;
-use crate::formed::well_formed;
-use crate::rows::Row;
-use crate::rows::row_number;
-use crate::rows::row_of;
 use crate::settled::Carried;
 use crate::settled::carry_out;
-use crate::states::GroupRecord;
-use crate::states::Timers;
+use crate::settled::later;
 use call::Event;
 use call::Input;
 use call::Settings;
@@ -24,6 +15,11 @@ use call::announced_of;
 use call::number_before_row;
 use call::write_sent;
 use frame::Written;
+use group_rows::row_of;
+use group_rows::rows::Row;
+use group_rows::states::GroupRecord;
+use group_rows::states::Timers;
+use group_rows::well_formed;
 
 // What a step answers. A number other than 0 refuses; row 0 is none; `stop` comes ahead of `start`; the line of this
 // length stands at the front of the buffer.
@@ -34,6 +30,26 @@ pub struct Stepped {
     pub stop: Timers,
     pub start: Timers,
     pub length: usize,
+}
+
+// The rows by their numbers, 0 where none is met.
+fn row_number(row: Row) -> u8
+    ensures { λ r. ⌜ r ≡ rowNumber row ⌝ }
+{
+    match row {
+        Row::Discard => 0,
+        Row::G1 => 1,
+        Row::G2 => 2,
+        Row::G3 => 3,
+        Row::G4 => 4,
+        Row::G5 => 5,
+        Row::G6 => 6,
+        Row::G7 => 7,
+        Row::G8 => 8,
+        Row::G9 => 9,
+        Row::G10 => 10,
+        Row::G11 => 11,
+    }
 }
 
 // A refusal: the record as it was, no row, no timers, no line.

@@ -1,16 +1,11 @@
 // What carrying out a row gives: timers, the call and the message.
 ghost use mathlib.Core.Path.{_≡_};
 ghost use Rattle.group_call.specs.Carried.{ranOut, timerOut, groupTimerOut, changes, stoppedOf, runningAfter};
-ghost use Rattle.group_call.specs.Carried.{changedBy, laterChange, heldOf, mediaHeld, acceptance, sentOf, carryOut};
-use crate::causes::later;
+ghost use Rattle.group_rows.specs.States.{stateNumber};
+ghost use Rattle.group_call.specs.Carried.{isLater, changedBy, laterChange, heldOf, mediaHeld, acceptance, sentOf, carryOut};
 use crate::effects::Hold;
 use crate::effects::Say;
 use crate::effects::effect_of;
-use crate::rows::Row;
-use crate::states::GroupRecord;
-use crate::states::State;
-use crate::states::Timers;
-use crate::states::state_number;
 use call::Event;
 use call::GroupTimer;
 use call::Input;
@@ -22,6 +17,10 @@ use frame::Acceptance;
 use frame::GroupCall;
 use frame::Media;
 use frame::Message;
+use group_rows::rows::Row;
+use group_rows::states::GroupRecord;
+use group_rows::states::State;
+use group_rows::states::Timers;
 
 // What carrying out a row gives: the next record, the timers to stop, then those to start, and what is sent.
 pub struct Carried {
@@ -65,6 +64,18 @@ fn ran_out(event: Event) -> Timers
     }
 }
 
+// The states by their numbers.
+fn state_number(state: State) -> u8
+    ensures { λ r. ⌜ r ≡ stateNumber state ⌝ }
+{
+    match state {
+        State::S1 => 1,
+        State::S3 => 3,
+        State::S4 => 4,
+        State::S5 => 5,
+    }
+}
+
 // Whether the state changes.
 fn state_changes(state: State, to: State) -> bool
     ensures { λ r. ⌜ r ≡ changes state to ⌝ }
@@ -96,6 +107,13 @@ fn running_after(was: Timers, stopped: Timers, out: Timers, started: Timers) -> 
 }
 
 // ---- the call
+
+// The last change of one call is later than that of the stored one.
+pub(crate) fn later(brought: GroupCall, stored: GroupCall) -> bool
+    ensures { λ r. ⌜ r ≡ isLater brought stored ⌝ }
+{
+    stored.last_change < brought.last_change
+}
 
 // The stored call with the type, the time of the last change and the changer of another.
 fn changed_by(stored: GroupCall, brought: GroupCall) -> GroupCall

@@ -1,11 +1,11 @@
 -- The cases of a step: refused by a test, refused by R1, refused by the writer, carried out. Assumes nothing.
 use Prim.Native.Nat.{ℕ}
-use mathlib.Core.Path.{_≡_}
+use mathlib.Core.Path.{_≡_, ap, _∙_}
 use mathlib.Core.List.{List}
 use mathlib.Core.Bool.{Bool, true, false}
 use lib.ListN.{length}
 use Rattle.call.specs.Numbers.{numberBeforeRow}
-use Rattle.call.specs.Sending.{sendNumber, sendBuffer}
+use Rattle.call.specs.Sending.{sendNumber, sendTold, sendBuffer}
 use Rattle.call.specs.declared.Settings.{Settings}
 use Rattle.call.specs.declared.Input.{Input}
 use Rattle.call.proofs.Answers as answers
@@ -58,8 +58,10 @@ module _ (s : Settings) (p : PrivateRecord) (i : Input) (out : List ℕ) where
   refused-sending =
       answers.refused-sending s (wellFormed s p) i taken (doneOf s p i .sent) (doneOf s p i .next .call .media) out (λ n. refusedOf n p) moved
 
-  -- carried out
-  pub carried-out : before ≡ 0 → taken ≡ false → writers ≡ 0 → Answers moved left
+  -- carried out, with the length that the writer tells
+  pub carried-out : before ≡ 0 → taken ≡ false → writers ≡ 0
+      → Answers (movedOf (rowOf s p i) (doneOf s p i) (sendTold (doneOf s p i .sent) (doneOf s p i .next .call .media) out .length)) left
   unfolding stepOf stepBuffer
-  carried-out =
-      answers.carried-out s (wellFormed s p) i taken (doneOf s p i .sent) (doneOf s p i .next .call .media) out (λ n. refusedOf n p) moved
+  carried-out e t w =
+      let r = answers.carried-out s (wellFormed s p) i taken (doneOf s p i .sent) (doneOf s p i .next .call .media) out (λ n. refusedOf n p) moved e t w in
+      (ap (movedOf (rowOf s p i) (doneOf s p i)) (answers.told-length (doneOf s p i .sent) (doneOf s p i .next .call .media) out w) ∙ r .0, r .1)

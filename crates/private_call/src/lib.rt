@@ -1,5 +1,6 @@
 // The private call machine: one step.
 ghost use mathlib.Core.Path.{_≡_};
+ghost use Rattle.private_rows.specs.Rows.{rowNumber};
 ghost use Rattle.private_call.specs.Step.{identifierTaken, refusedOf, movedOf, stepOf, stepBuffer};
 use call::Event;
 use call::Input;
@@ -12,7 +13,6 @@ use private_effects::Carried;
 use private_effects::carry_out;
 use private_rows::row_of;
 use private_rows::rows::Row;
-use private_rows::rows::row_number;
 use private_rows::states::PrivateRecord;
 use private_rows::states::Timers;
 use private_rows::well_formed;
@@ -26,6 +26,44 @@ pub struct Stepped {
     pub stop: Timers,
     pub start: Timers,
     pub length: usize,
+}
+
+// The rows by their numbers, 0 where none is met.
+fn row_number(row: Row) -> u8
+    ensures { λ r. ⌜ r ≡ rowNumber row ⌝ }
+{
+    match row {
+        Row::Discard => 0,
+        Row::R1 => 1,
+        Row::R2 => 2,
+        Row::R3 => 3,
+        Row::R4 => 4,
+        Row::R5 => 5,
+        Row::R6 => 6,
+        Row::R7 => 7,
+        Row::R8 => 8,
+        Row::R9 => 9,
+        Row::R10 => 10,
+        Row::R11 => 11,
+        Row::R12 => 12,
+        Row::R13 => 13,
+        Row::R14 => 14,
+        Row::R15 => 15,
+        Row::R16 => 16,
+        Row::R17 => 17,
+        Row::R18 => 18,
+        Row::R19 => 19,
+        Row::R20 => 20,
+        Row::R21 => 21,
+        Row::R22 => 22,
+        Row::R23 => 23,
+        Row::R24 => 24,
+        Row::R25 => 25,
+        Row::R26 => 26,
+        Row::R27 => 27,
+        Row::R28 => 28,
+        Row::R29 => 29,
+    }
 }
 
 // A refusal: the record as it was, no row, no timers, no line.

@@ -2,7 +2,7 @@
 ghost use mathlib.Core.Path.{_≡_};
 ghost use Rattle.private_rows.specs.Found.{orderOf, atOf, met as metOf, either as eitherOf, setupRow};
 ghost use Rattle.private_rows.specs.Found.{acceptRow, foundAt};
-ghost use Rattle.private_rows.specs.Rows.{rowNumber, rowIn};
+ghost use Rattle.private_rows.specs.Rows.{rowIn};
 use crate::causes::Cause;
 use crate::causes::Facts;
 use crate::states::Phase;
@@ -167,42 +167,4 @@ pub(crate) fn row_in(phase: Phase, cause: Cause, facts: Facts) -> Row
     ensures { λ r. ⌜ r ≡ rowIn phase cause facts ⌝ }
 {
     found_at(at_phase(phase), cause, facts)
-}
-
-// The rows by their numbers, 0 where none is met.
-pub fn row_number(row: Row) -> u8
-    ensures { λ r. ⌜ r ≡ rowNumber row ⌝ }
-{
-    match row {
-        Row::Discard => 0,
-        Row::R1 => 1,
-        Row::R2 => 2,
-        Row::R3 => 3,
-        Row::R4 => 4,
-        Row::R5 => 5,
-        Row::R6 => 6,
-        Row::R7 => 7,
-        Row::R8 => 8,
-        Row::R9 => 9,
-        Row::R10 => 10,
-        Row::R11 => 11,
-        Row::R12 => 12,
-        Row::R13 => 13,
-        Row::R14 => 14,
-        Row::R15 => 15,
-        Row::R16 => 16,
-        Row::R17 => 17,
-        Row::R18 => 18,
-        Row::R19 => 19,
-        Row::R20 => 20,
-        Row::R21 => 21,
-        Row::R22 => 22,
-        Row::R23 => 23,
-        Row::R24 => 24,
-        Row::R25 => 25,
-        Row::R26 => 26,
-        Row::R27 => 27,
-        Row::R28 => 28,
-        Row::R29 => 29,
-    }
 }

@@ -1,0 +1,2 @@
+pub mod Everywhere
+pub mod Meets

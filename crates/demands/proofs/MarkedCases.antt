@@ -105,7 +105,7 @@ step-G = step-holds refl refl
 -- case H, for every record
 better-joins : Holds (merges 1 2 10)
 better-joins =
-    merges-holds (λ s g call confirm media v out h w e basic r own f emergency.
+    merges-holds {type = 1} {other = 2} {row = 10} (λ s g call confirm media v out h w e basic r own f emergency.
     let is = ongoing-is s g w e in
     let w' = subst (λ (x : GroupRecord). GroupFormed.wellFormed s x ≡ true) is w in
     let rank : rankOf (call .«call_type») < rankOf (g .call .«call_type») = rw (emergency, basic) (omega arith) in
@@ -120,14 +120,14 @@ step-H = step-holds refl refl
 -- case I, for every two calls
 lower-wins : Holds (lowerWins 16 17)
 lower-wins =
-    lower-wins-holds (λ a b r s x y.
+    lower-wins-holds {low = 16} {high = 17} (λ a b r s x y.
     let low : a .identifier < b .identifier = rw (x, y) (omega arith) in
     let is = by-identifier a b r s low in (is, asymmetric a b is))
 
 -- case J, for every two calls
 emergency-wins : Holds (typeBeats 2 3)
 emergency-wins =
-    type-beats-holds (λ a b x y.
+    type-beats-holds {type = 2} {other = 3} (λ a b x y.
     let rank : rankOf (a .«call_type») < rankOf (b .«call_type») = rw (x, y) (omega arith) in
     let is = by-rank a b rank in (is, asymmetric a b is))
 

@@ -117,7 +117,12 @@ pub(crate) fn effect_of(row: Row, state: State, confirm: bool) -> Effect
         Row::Discard => stays(state, Hold::Keep, Say::Nothing),
         Row::G1 => enters(State::S3, both, Hold::Announced, Say::FirstAnnouncement),
         Row::G2 => starts(state, Timers::TFG2, Say::Announcement),
-        Row::G3 => enters(waiting(confirm), Timers::TFG4, Hold::Announced, Say::Nothing),
+        Row::G3 => enters(
+            waiting(confirm),
+            Timers::TFG4,
+            Hold::Announced,
+            Say::Nothing,
+        ),
         Row::G4 => enters(State::S3, both, Hold::Announced, confirming(confirm)),
         Row::G5 => enters(State::S3, both, Hold::Keep, Say::Accept),
         Row::G6 => enters(State::S3, both, Hold::Keep, Say::Nothing),

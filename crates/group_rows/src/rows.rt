@@ -77,7 +77,11 @@ fn announced_row(at: At, x: Facts) -> Row
         return if x.acknowledgement { Row::G3 } else { Row::G4 };
     }
     if at.s3 {
-        return if x.same { Row::G11 } else { met(x.better, Row::G10) };
+        return if x.same {
+            Row::G11
+        } else {
+            met(x.better, Row::G10)
+        };
     }
     Row::Discard
 }

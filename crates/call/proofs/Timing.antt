@@ -1,6 +1,6 @@
 -- The rules for a timer, for each that may be stopped. Assumes nothing.
 use mathlib.Core.Path.{_≡_, refl}
-use mathlib.Core.Bool.{Bool, true, false, not, _&&_, _||_}
+use mathlib.Core.Bool.{Bool, true, false, _||_}
 use Rattle.call.specs.Timing.{isStopped}
 use Rattle.call.proofs.Laws.{and-false}
 

@@ -102,13 +102,13 @@ step-G : Holds (steps privateMachine crew (stored Phase.P4 noCounters ours) (exp
 unfolding stepOf settingsGood wellFormed rowIn carryOut startedOf stoppedOf runningAfter countersAfter inRange partiesGood setupGood
 step-G = step-holds refl refl
 
--- case H, for every record
-better-joins : Holds (merges 1 2 10)
-better-joins =
-    merges-holds {type = 1} {other = 2} {row = 10} (λ s g call confirm media v out h w e basic r own f emergency.
+-- an announced type of better rank wins, from every record: case H
+better-joins : {type other : ℕ} → rankOf other < rankOf type → Holds (merges type other 10)
+better-joins {type} {other} better =
+    merges-holds {type = type} {other = other} {row = 10} (λ s g call confirm media v out h w e stored r own f heard.
     let is = ongoing-is s g w e in
     let w' = subst (λ (x : GroupRecord). GroupFormed.wellFormed s x ≡ true) is w in
-    let rank : rankOf (call .«call_type») < rankOf (g .call .«call_type») = rw (emergency, basic) (omega arith) in
+    let rank : rankOf (call .«call_type») < rankOf (g .call .«call_type») = rw (heard, stored) better in
     let step = better-joined s (g .call) (g .media) call confirm media v out h w' r (eq-eqb _ _ own) (ne-eqb _ _ f) (by-rank call (g .call) rank) in
     ap (λ (x : GroupRecord). GroupStep.stepOf s x (hears call confirm media v) out .row) is ∙ ap (λ (x : GroupStepped.Stepped). x .row) (step .0))
 
@@ -117,22 +117,22 @@ step-H : Holds (steps groupMachine crew (goesOn (mine 1)) (announces (heard 2) 0
 unfolding GroupStep.stepOf settingsGood GroupFormed.wellFormed GroupRows.rowIn GroupCarried.carryOut GroupCarried.stoppedOf GroupCarried.runningAfter inRange groupCallGood
 step-H = step-holds refl refl
 
--- case I, for every two calls
-lower-wins : Holds (lowerWins 16 17)
-lower-wins =
-    lower-wins-holds {low = 16} {high = 17} (λ a b r s x y.
-    let low : a .identifier < b .identifier = rw (x, y) (omega arith) in
-    let is = by-identifier a b r s low in (is, asymmetric a b is))
+-- the lower identifier wins, of every two calls: case I
+lower-wins : {low high : ℕ} → low < high → Holds (lowerWins low high)
+lower-wins {low} {high} h =
+    lower-wins-holds {low = low} {high = high} (λ a b r s x y.
+    let below : a .identifier < b .identifier = rw (x, y) h in
+    let is = by-identifier a b r s below in (is, asymmetric a b is))
 
--- case J, for every two calls
-emergency-wins : Holds (typeBeats 2 3)
-emergency-wins =
-    type-beats-holds {type = 2} {other = 3} (λ a b x y.
-    let rank : rankOf (a .«call_type») < rankOf (b .«call_type») = rw (x, y) (omega arith) in
+-- the better rank wins, of every two calls: case J
+rank-wins : {type other : ℕ} → rankOf type < rankOf other → Holds (typeBeats type other)
+rank-wins {type} {other} h =
+    type-beats-holds {type = type} {other = other} (λ a b x y.
+    let rank : rankOf (a .«call_type») < rankOf (b .«call_type») = rw (x, y) h in
     let is = by-rank a b rank in (is, asymmetric a b is))
 
 -- every marked case holds
 pub marked-cases : AllHold table
 unfolding below AllHold table ringing setup readLine refusalOf messageAt mediaAt numbersAt numberAt digitsOf allDigits inRange partiesGood setupGood groupCallGood acceptanceGood writeNumber lineOf frameInHex allInHex inHex choiceNumber choiceOf
 marked-cases =
-    (reading-holds refl, (everywhere refl, (reading-holds refl, (reading-holds refl, (last-expiry-holds last-expiry, (step-E, (second-discarded-holds (λ s p media media' v v' out out' e. answers (second-accept s p media media' v v' out out' e)), (step-F, (quiet (λ w. refl), (step-G, (better-joins, (step-H, (lower-wins, (choosing-holds refl refl, (choosing-holds refl refl, (emergency-wins, (choosing-holds refl refl, (by-length refl, (by-length refl, (reading-holds refl, (by-length refl, (reading-holds refl, (by-length refl, tt)))))))))))))))))))))))
+    (reading-holds refl, (everywhere refl, (reading-holds refl, (reading-holds refl, (last-expiry-holds last-expiry, (step-E, (second-discarded-holds (λ s p media media' v v' out out' e. answers (second-accept s p media media' v v' out out' e)), (step-F, (quiet (λ w. refl), (step-G, (better-joins (omega arith), (step-H, (lower-wins (omega arith), (choosing-holds refl refl, (choosing-holds refl refl, (rank-wins (omega arith), (choosing-holds refl refl, (by-length refl, (by-length refl, (reading-holds refl, (by-length refl, (reading-holds refl, (by-length refl, tt)))))))))))))))))))))))

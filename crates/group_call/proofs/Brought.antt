@@ -6,18 +6,17 @@ use lib.Dec.{eqb}
 use borrow.Author.Tests.{eq-eqb}
 use Rattle.frame.specs.Digits.{four}
 use Rattle.frame.specs.Range.{neverZero, timeGood, typeGood}
-use Rattle.frame.specs.Frame.{inRange, groupCallGood}
+use Rattle.frame.specs.Frame.{inRange}
 use Rattle.frame.specs.declared.Media.{Media}
 use Rattle.frame.specs.declared.GroupCall.{GroupCall}
 use Rattle.frame.specs.declared.Message.the-variants.{SetupRequest, Ringing, Accept, Reject, Release, ReleaseAck, AcceptAck, Announcement, GroupAccept}
 use Rattle.frame.proofs.Laws.{and-split}
 use Rattle.call.specs.Settings.{settingsGood}
-use Rattle.call.specs.Announced.{startedGroupCall, announcedOf}
+use Rattle.call.specs.Announced.{announcedOf}
 use Rattle.call.specs.Numbers.{heardGood, argumentsGood}
 use Rattle.call.specs.declared.Settings.{Settings}
 use Rattle.call.specs.declared.GroupTimer.{GroupTimer}
 use Rattle.call.specs.declared.Timer.{Timer}
-use Rattle.call.specs.declared.GroupRaise.{GroupRaise}
 use Rattle.call.specs.declared.GroupAction.{GroupAction}
 use Rattle.call.specs.declared.Action.{Action}
 use Rattle.call.specs.declared.Event.{Event}
@@ -28,7 +27,7 @@ use Rattle.group_rows.specs.Rows.{sameCause}
 use Rattle.group_call.specs.Carried.{ranOut}
 use Rattle.group_rows.specs.declared.states.Timers.{Timers}
 use Rattle.group_rows.specs.declared.causes.Cause.{Cause}
-use Rattle.group_call.proofs.Holding.{Ranged, ranged}
+use Rattle.group_call.proofs.Holding.{ranged}
 
 -- ---- the timer that ran out
 

@@ -1,7 +1,7 @@
 -- The ranges of a group call, field by field. Assumes nothing.
 use Prim.Native.Nat.{ℕ}
 use mathlib.Core.Path.{_≡_}
-use mathlib.Core.Bool.{Bool, true, cond}
+use mathlib.Core.Bool.{true}
 use Rattle.frame.specs.Digits.{two, four}
 use Rattle.frame.specs.Range.{neverZero, timeGood, flagGood, typeGood}
 use Rattle.frame.specs.Media.{mediaGood}

@@ -1,5 +1,4 @@
 -- Carrying out the row that is met keeps a record well formed, and what it sends is in range. Assumes nothing.
-use Prim.Native.Nat.{ℕ}
 use mathlib.Core.Path.{_≡_, refl, sym, ap, _∙_}
 use mathlib.Core.Bool.{Bool, true, false, cond, not, _&&_, Bool·beq, false≢true}
 use lib.Dec.{eqb}
@@ -15,7 +14,6 @@ use Rattle.call.specs.Announced.{announcedOf}
 use Rattle.call.specs.declared.Settings.{Settings}
 use Rattle.call.specs.declared.Input.{Input}
 use Rattle.call.specs.declared.Announced.{Announced}
-use Rattle.call.specs.declared.Send.{Send}
 use Rattle.call.proofs.Laws.{both, beq-same}
 use Rattle.call.proofs.Stepping.{Taken, SentGood}
 use Rattle.group_rows.specs.States.{sameTimers, runningOf}
@@ -32,9 +30,9 @@ use Rattle.group_rows.specs.declared.rows.Row.{Row}
 use Rattle.group_call.specs.declared.effects.Hold.{Hold}
 use Rattle.group_call.specs.declared.effects.Say.{Say}
 use Rattle.group_call.specs.declared.effects.Effect.{Effect}
-use Rattle.group_call.proofs.Holding.{Ranged, ranged, announces, accepts, changes-good}
+use Rattle.group_call.proofs.Holding.{ranged, announces, accepts, changes-good}
 use Rattle.group_call.proofs.Brought.{outOf, ran-out-of, bringsCall, bringsChange, New, Brings, brings, own-good}
-use Rattle.group_call.proofs.Settling.{startStop, mayHold, holdsNew, maySay, Sound, rows-sound}
+use Rattle.group_call.proofs.Settling.{startStop, mayHold, maySay, Sound, rows-sound}
 
 -- ---- a well-formed record
 

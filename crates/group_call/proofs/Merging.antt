@@ -13,7 +13,7 @@ use Rattle.call.specs.declared.Settings.{Settings}
 use Rattle.call.specs.declared.Verdicts.{Verdicts}
 use Rattle.call.proofs.Stepping.{Taken, tests-pass}
 use Rattle.group_order.specs.Order.{isBetter}
-use Rattle.group_rows.specs.States.{noTimer, tfg2, tfg2And6, runningOf}
+use Rattle.group_rows.specs.States.{tfg2, tfg2And6, runningOf}
 use Rattle.group_rows.specs.Formed.{wellFormed}
 use Rattle.group_rows.specs.Causes.{sameIdentifier, factsOf}
 use Rattle.group_rows.specs.Rows.{rowNumber, rowIn, rowOf}

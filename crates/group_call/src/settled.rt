@@ -2,7 +2,8 @@
 ghost use mathlib.Core.Path.{_≡_};
 ghost use Rattle.group_call.specs.Carried.{ranOut, timerOut, groupTimerOut, changes, stoppedOf, runningAfter};
 ghost use Rattle.group_rows.specs.States.{stateNumber};
-ghost use Rattle.group_call.specs.Carried.{isLater, changedBy, laterChange, heldOf, mediaHeld, acceptance, sentOf, carryOut};
+ghost use Rattle.group_call.specs.Carried.{isLater, changedBy, laterChange, heldOf, mediaHeld};
+ghost use Rattle.group_call.specs.Carried.{acceptance, sentOf, carryOut};
 use crate::effects::Hold;
 use crate::effects::Say;
 use crate::effects::effect_of;

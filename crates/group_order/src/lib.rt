@@ -3,7 +3,8 @@ ghost use mathlib.Core.Path.{_≡_};
 ghost use Rattle.group_order.specs.Order.{rankOf, isBetter};
 use frame::GroupCall;
 
-// The rank of a call's type, best first: emergency 0, imminent peril 1, basic 2; so has whatever is no type of a group call.
+// The rank of a call's type, best first: emergency 0, imminent peril 1, basic 2; what is no type of a group call ranks
+// with basic.
 pub fn rank(call_type: u8) -> u8
     ensures { λ r. ⌜ r ≡ rankOf «call_type» ⌝ }
 {

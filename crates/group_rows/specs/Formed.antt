@@ -1,5 +1,4 @@
 -- The well-formed group records. Assumes nothing.
-use Prim.Native.Nat.{ℕ}
 use mathlib.Core.Bool.{Bool, cond, _&&_}
 use lib.Dec.{eqb}
 use Rattle.frame.specs.Media.{noMedia, mediaNone}

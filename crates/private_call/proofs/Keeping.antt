@@ -7,14 +7,12 @@ use Rattle.frame.specs.Range.{neverZero, reasonGood}
 use Rattle.frame.specs.Frame.{partiesGood, inRange}
 use Rattle.frame.specs.declared.Media.{Media}
 use Rattle.frame.specs.declared.Parties.{Parties}
-use Rattle.frame.specs.declared.Message.{Message}
 use Rattle.frame.proofs.Laws.{and-split}
 use Rattle.call.specs.Settings.{restricted, limitsGood, settingsGood}
 use Rattle.call.specs.Request.{requestOf}
 use Rattle.call.specs.declared.Settings.{Settings}
 use Rattle.call.specs.declared.Input.{Input}
 use Rattle.call.specs.declared.Request.{Request}
-use Rattle.call.specs.declared.Send.{Send}
 use Rattle.call.proofs.Laws.{both}
 use Rattle.call.proofs.Stepping.{Taken, SentGood}
 use Rattle.private_rows.specs.Phases.{stateOf, runningOf}

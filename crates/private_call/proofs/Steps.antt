@@ -5,7 +5,7 @@ use mathlib.Core.List.{List}
 use mathlib.Core.Bool.{Bool, true, false, cond}
 use lib.ListN.{length}
 use lib.Dec.{eqb}
-use borrow.Author.Tests.{eq-eqb, eqb-true, eqb-false}
+use borrow.Author.Tests.{eq-eqb, eqb-true}
 use Rattle.frame.specs.Lent.{lentAfter}
 use Rattle.call.specs.Settings.{settingsGood}
 use Rattle.call.specs.Sending.{lineSent, sendNumber}

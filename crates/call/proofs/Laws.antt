@@ -16,7 +16,7 @@ pub holds : (b : Bool) → not b ≡ false → b ≡ true
 holds true e = refl
 holds false e = sym e
 
--- nothing and what is not
+-- with false, both are false
 pub and-false : (b : Bool) → (b && false) ≡ false
 and-false true = refl
 and-false false = refl

@@ -4,3 +4,4 @@ pub mod Announced
 pub mod Numbers
 pub mod Sending
 pub mod Timing
+pub mod Meeting

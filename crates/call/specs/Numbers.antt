@@ -1,4 +1,4 @@
--- The numbers that come ahead of any row, whatever the state: 7, 9, and 5 or 8. Assumes nothing.
+-- The numbers of the tests of a step: 7, 9, and 5 or 8 ahead of any row, whatever the state, then the 8 of a row. Assumes nothing.
 use Prim.Native.Nat.{ℕ}
 use mathlib.Core.List.{List, [], _∷_, _++_}
 use mathlib.Core.Bool.{Bool, true, not, _&&_}

@@ -14,8 +14,8 @@ use Rattle.frame.proofs.LineNumbers.{line-number-at-most}
 use Rattle.group_order.specs.Order.{isBetter}
 use Rattle.group_order.proofs.Order.{total, either-way}
 use Rattle.chooser.specs.Choice.{lineAnnounced, choosable, linesChoosable, choiceBetween, choiceOf, numberBetween, choiceNumber, place, placeOf}
-use Rattle.chooser.specs.declared.Announced.{Announced}
-use Rattle.chooser.specs.declared.Announced.the-variants.{Call, Nothing}
+use Rattle.chooser.specs.declared.LineCall.{LineCall}
+use Rattle.chooser.specs.declared.LineCall.the-variants.{Call, Nothing}
 use Rattle.chooser.proofs.Laws.{neither-line, one-line, choosable-calls, exchanged, choosable-turned, choice-turned}
 use Rattle.chooser.specs.NoChoice.{Announces, NoChoice}
 use Rattle.chooser.proofs.Lines.{line-announces, announced-number, no-choice}
@@ -47,7 +47,7 @@ ten-number m n good h k e = go (eqb m 0) (eqb n 0) good refl refl e
 choosable-readable : (first second : List ℕ) → linesChoosable first second ≡ true → (lineNumber first ≡ 0) × (lineNumber second ≡ 0)
 choosable-readable first second e = go (lineAnnounced first) (lineAnnounced second) refl refl e
   where
-    go : (p q : Announced) → lineAnnounced first ≡ p → lineAnnounced second ≡ q → choosable p q ≡ true → (lineNumber first ≡ 0) × (lineNumber second ≡ 0)
+    go : (p q : LineCall) → lineAnnounced first ≡ p → lineAnnounced second ≡ q → choosable p q ≡ true → (lineNumber first ≡ 0) × (lineNumber second ≡ 0)
     go (Call a) (Call b) h k f = (announced-number first a (line-announces first a h), announced-number second b (line-announces second b k))
     go (Call a) Nothing h k f = absurd (false≢true f)
     go Nothing q h k f = absurd (false≢true f)
@@ -123,7 +123,7 @@ pub chosen-is-better : (first second : List ℕ) → choiceNumber first second �
 unfolding choiceOf
 chosen-is-better first second e = go (lineAnnounced first) (lineAnnounced second) refl refl (zero-exactly first second .0 e)
   where
-    go : (p q : Announced) → lineAnnounced first ≡ p → lineAnnounced second ≡ q → choosable p q ≡ true → Chosen first second
+    go : (p q : LineCall) → lineAnnounced first ≡ p → lineAnnounced second ≡ q → choosable p q ≡ true → Chosen first second
     go (Call a) (Call b) h k f =
         let (group, identifiers) = choosable-calls a b f in
         let choice : choiceOf first second ≡ cond (isBetter a b) 1 2 = ap₂ choiceBetween h k ∙ ap (λ (x : Bool). cond x (cond (isBetter a b) 1 2) 0) f in
@@ -159,7 +159,7 @@ better-line-returned first second e =
     go chosen (inl h) = inl (h, ap (λ (k : ℕ). placeOf k first second) (chosen .first-exactly .1 h))
     go chosen (inr h) = inr (h, ap (λ (k : ℕ). placeOf k first second) (chosen .second-exactly .1 h))
 
--- where the number is not 0, it is the empty part at the front of the first line
+-- where the number is not 0, it has no bytes and lies where the first line begins
 pub empty-part-returned : (first second : RefT (List ℕ)) → (choiceNumber (first .now) (second .now) ≡ 0 → ⊥)
     → placeOf (choiceOf (first .now) (second .now)) first second ≡ (first .ptr, [])
 empty-part-returned first second f = ap (λ (k : ℕ). placeOf k first second) (chosen-refused (first .now) (second .now) .1 f)

@@ -10,8 +10,8 @@ use Rattle.frame.specs.declared.GroupCall.{GroupCall}
 use Rattle.group_order.specs.Order.{isBetter}
 use Rattle.group_order.proofs.Order.{either-way}
 use Rattle.chooser.specs.Choice.{lineAnnounced, callsChoosable, choosable, linesChoosable, callsChoice, choiceBetween, choiceOf}
-use Rattle.chooser.specs.declared.Announced.{Announced}
-use Rattle.chooser.specs.declared.Announced.the-variants.{Call, Nothing}
+use Rattle.chooser.specs.declared.LineCall.{LineCall}
+use Rattle.chooser.specs.declared.LineCall.the-variants.{Call, Nothing}
 
 -- ---- two calls
 
@@ -26,7 +26,7 @@ calls-kept a b h = rw h
 -- ---- where one can choose
 
 -- where neither is chosen, one cannot choose
-neither-chosen : (p q : Announced) → choiceBetween p q ≡ 0 → choosable p q ≡ false
+neither-chosen : (p q : LineCall) → choiceBetween p q ≡ 0 → choosable p q ≡ false
 neither-chosen (Call a) (Call b) e = go (callsChoosable a b) (isBetter a b) e
   where
     go : (x y : Bool) → _≡_ {A = ℕ} (cond x (cond y 1 2) 0) 0 → x ≡ false
@@ -37,7 +37,7 @@ neither-chosen (Call a) Nothing e = refl
 neither-chosen Nothing q e = refl
 
 -- where one is chosen, one can choose
-one-chosen : (p q : Announced) → (choiceBetween p q ≡ 0 → ⊥) → choosable p q ≡ true
+one-chosen : (p q : LineCall) → (choiceBetween p q ≡ 0 → ⊥) → choosable p q ≡ true
 one-chosen (Call a) (Call b) f = go (callsChoosable a b) (isBetter a b) f
   where
     go : (x y : Bool) → (_≡_ {A = ℕ} (cond x (cond y 1 2) 0) 0 → ⊥) → x ≡ true
@@ -86,14 +86,14 @@ calls-turned a b =
     ap₂ (λ (x y : Bool). x && not y) (eqb-turned (b .group) (a .group)) (eqb-turned (b .identifier) (a .identifier))
 
 -- and so between two messages
-pub choosable-turned : (p q : Announced) → choosable q p ≡ choosable p q
+pub choosable-turned : (p q : LineCall) → choosable q p ≡ choosable p q
 choosable-turned (Call a) (Call b) = calls-turned a b
 choosable-turned (Call a) Nothing = refl
 choosable-turned Nothing (Call b) = refl
 choosable-turned Nothing Nothing = refl
 
 -- the same call is chosen either way
-pub choice-turned : (p q : Announced) → choiceBetween q p ≡ exchanged (choiceBetween p q)
+pub choice-turned : (p q : LineCall) → choiceBetween q p ≡ exchanged (choiceBetween p q)
 choice-turned (Call a) (Call b) = go (callsChoosable a b) refl
   where
     better : (x y : Bool) → y ≡ not x → _≡_ {A = ℕ} (cond y 1 2) (exchanged (cond x 1 2))

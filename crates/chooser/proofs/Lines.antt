@@ -15,8 +15,8 @@ use Rattle.frame.specs.declared.Read.the-variants.{Readable, Refused}
 use Rattle.frame.proofs.OnlyLine.{number-read}
 use Rattle.chooser.specs.Choice.{announcedBy, announcedIn, lineAnnounced, callsChoosable, choosable, linesChoosable}
 use Rattle.chooser.specs.NoChoice.{Announces, NoAnnouncement, Apart, NoChoice}
-use Rattle.chooser.specs.declared.Announced.{Announced}
-use Rattle.chooser.specs.declared.Announced.the-variants.{Call, Nothing}
+use Rattle.chooser.specs.declared.LineCall.{LineCall}
+use Rattle.chooser.specs.declared.LineCall.the-variants.{Call, Nothing}
 
 -- ---- what a line announces
 
@@ -24,7 +24,7 @@ use Rattle.chooser.specs.declared.Announced.the-variants.{Call, Nothing}
 nothing-called : {call : GroupCall} → Nothing ≡ Call call → ⊥
 nothing-called e = true≢false (ap nothing e)
   where
-    nothing : Announced → Bool
+    nothing : LineCall → Bool
     nothing (Call call) = false
     nothing Nothing = true
 
@@ -65,17 +65,17 @@ no-choice first second = (λ e. forth (lineAnnounced first) (lineAnnounced secon
     apart a b true false h k e = absurd (true≢false e)
     apart a b false y h k e = inl (eqb-false _ _ h)
 
-    forth : (p q : Announced) → lineAnnounced first ≡ p → lineAnnounced second ≡ q → choosable p q ≡ false → NoChoice first second
+    forth : (p q : LineCall) → lineAnnounced first ≡ p → lineAnnounced second ≡ q → choosable p q ≡ false → NoChoice first second
     forth (Call a) (Call b) h k e =
         inr (inr (a, b, line-announces first a h, line-announces second b k, apart a b (eqb (a .group) (b .group)) (eqb (a .identifier) (b .identifier)) refl refl e))
     forth (Call a) Nothing h k e = inr (inl (line-announces-nothing second k))
     forth Nothing q h k e = inl (line-announces-nothing first h)
 
-    without-first : (p q : Announced) → lineAnnounced first ≡ p → NoAnnouncement first → choosable p q ≡ false
+    without-first : (p q : LineCall) → lineAnnounced first ≡ p → NoAnnouncement first → choosable p q ≡ false
     without-first (Call a) q h n = absurd (n a (line-announces first a h))
     without-first Nothing q h n = refl
 
-    without-second : (p q : Announced) → lineAnnounced second ≡ q → NoAnnouncement second → choosable p q ≡ false
+    without-second : (p q : LineCall) → lineAnnounced second ≡ q → NoAnnouncement second → choosable p q ≡ false
     without-second (Call a) (Call b) h n = absurd (n b (line-announces second b h))
     without-second (Call a) Nothing h n = refl
     without-second Nothing q h n = refl

@@ -12,13 +12,13 @@ use Rattle.frame.specs.declared.Message.the-variants.{SetupRequest, Ringing, Ac
 use Rattle.frame.specs.declared.Read.{Read}
 use Rattle.frame.specs.declared.Read.the-variants.{Readable, Refused}
 use Rattle.group_order.specs.Order.{isBetter}
-use Rattle.chooser.specs.declared.Announced.{Announced}
-use Rattle.chooser.specs.declared.Announced.the-variants.{Call, Nothing}
+use Rattle.chooser.specs.declared.LineCall.{LineCall}
+use Rattle.chooser.specs.declared.LineCall.the-variants.{Call, Nothing}
 
 -- ---- what a line announces
 
 -- an announcement, kind 08, announces its call; any other message nothing
-abbrev pub announcedBy : Message → Announced
+abbrev pub announcedBy : Message → LineCall
 announcedBy (SetupRequest p s) = Nothing
 announcedBy (Ringing p) = Nothing
 announcedBy (Accept p) = Nothing
@@ -30,22 +30,22 @@ announcedBy (Announcement call confirm) = Call call
 announcedBy (GroupAccept a) = Nothing
 
 -- a line that is refused announces nothing
-abbrev pub announcedIn : Read → Announced
+abbrev pub announcedIn : Read → LineCall
 announcedIn (Readable m) = announcedBy m
 announcedIn (Refused n) = Nothing
 
 -- what a line announces
-abbrev pub lineAnnounced : List ℕ → Announced
+abbrev pub lineAnnounced : List ℕ → LineCall
 lineAnnounced l = announcedIn (lineMessage l)
 
--- ---- between what one can choose
+-- ---- whether there is a choice
 
 -- two calls: their group is the same, and their identifiers differ
 abbrev pub callsChoosable : GroupCall → GroupCall → Bool
 callsChoosable a b = eqb (a .group) (b .group) && not (eqb (a .identifier) (b .identifier))
 
 -- two messages: both are announcements, and one can choose between their calls
-abbrev pub choosable : Announced → Announced → Bool
+abbrev pub choosable : LineCall → LineCall → Bool
 choosable (Call a) (Call b) = callsChoosable a b
 choosable (Call a) Nothing = false
 choosable Nothing b = false
@@ -61,7 +61,7 @@ abbrev pub callsChoice : GroupCall → GroupCall → ℕ
 callsChoice a b = cond (callsChoosable a b) (cond (isBetter a b) 1 2) 0
 
 -- of two messages the one whose call is chosen
-abbrev pub choiceBetween : Announced → Announced → ℕ
+abbrev pub choiceBetween : LineCall → LineCall → ℕ
 choiceBetween (Call a) (Call b) = callsChoice a b
 choiceBetween (Call a) Nothing = 0
 choiceBetween Nothing b = 0
@@ -76,7 +76,7 @@ choiceOf first second = choiceBetween (lineAnnounced first) (lineAnnounced secon
 abbrev pub numberBetween : ℕ → ℕ → Bool → ℕ
 numberBetween first second good = firstGiven ((first, not (eqb first 0)) ∷ (second, not (eqb second 0)) ∷ (10, not good) ∷ [])
 
--- so it is of two lines
+-- of two lines
 unfoldable pub choiceNumber : List ℕ → List ℕ → ℕ
 choiceNumber first second = numberBetween (lineNumber first) (lineNumber second) (linesChoosable first second)
 
@@ -86,6 +86,6 @@ choiceNumber first second = numberBetween (lineNumber first) (lineNumber second)
 abbrev pub place : RefT (List ℕ) → (ℕ × ℕ) × List ℕ
 place r = (r .ptr, r .now)
 
--- the first line itself, the second itself, or the empty part at the front of the first
+-- the first line itself, the second itself, or no bytes where the first begins
 abbrev pub placeOf : ℕ → RefT (List ℕ) → RefT (List ℕ) → (ℕ × ℕ) × List ℕ
 placeOf choice first second = cond (eqb choice 1) (place first) (cond (eqb choice 2) (place second) (first .ptr, []))

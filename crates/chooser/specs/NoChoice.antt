@@ -20,7 +20,7 @@ NoAnnouncement l = (call : GroupCall) → Announces l call → ⊥
 abbrev pub Apart : GroupCall → GroupCall → Type 0
 Apart a b = (a .group ≡ b .group → ⊥) ⊎ (a .identifier ≡ b .identifier)
 
--- what the number 10 says: a line is no announcement, the groups differ, or the identifiers are equal
+-- what the number 10 says: one of the lines is none, or the two calls cannot be chosen between
 abbrev pub NoChoice : List ℕ → List ℕ → Type 0
 NoChoice first second =
     NoAnnouncement first

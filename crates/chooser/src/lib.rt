@@ -7,37 +7,37 @@ use frame::Message;
 use frame::Read;
 
 // What a line announces: a group call, or nothing.
-enum Announced {
+enum LineCall {
     Call(GroupCall),
     Nothing,
 }
 
 // The call that a message announces, if it is an announcement.
-fn announced_by(message: Message) -> Announced
+fn announced_by(message: Message) -> LineCall
     ensures { λ r. ⌜ r ≡ announcedBy message ⌝ }
 {
     match message {
-        Message::SetupRequest(_, _) => Announced::Nothing,
-        Message::Ringing(_) => Announced::Nothing,
-        Message::Accept(_) => Announced::Nothing,
-        Message::Reject(_, _) => Announced::Nothing,
-        Message::Release(_) => Announced::Nothing,
-        Message::ReleaseAck(_) => Announced::Nothing,
-        Message::AcceptAck(_) => Announced::Nothing,
-        Message::Announcement(call, _) => Announced::Call(call),
-        Message::GroupAccept(_) => Announced::Nothing,
+        Message::SetupRequest(_, _) => LineCall::Nothing,
+        Message::Ringing(_) => LineCall::Nothing,
+        Message::Accept(_) => LineCall::Nothing,
+        Message::Reject(_, _) => LineCall::Nothing,
+        Message::Release(_) => LineCall::Nothing,
+        Message::ReleaseAck(_) => LineCall::Nothing,
+        Message::AcceptAck(_) => LineCall::Nothing,
+        Message::Announcement(call, _) => LineCall::Call(call),
+        Message::GroupAccept(_) => LineCall::Nothing,
     }
 }
 
 // The call that a line announces, if the line is readable and an announcement.
-fn line_announced(line: &[u8]) -> Announced
+fn line_announced(line: &[u8]) -> LineCall
     ensures { λ r. ⌜ r ≡ lineAnnounced (now (line .entry)) ⌝ }
 {
     let reading = frame::read_line(line);
     let read = reading.read;
     match read {
         Read::Readable(message) => announced_by(message),
-        Read::Refused(_) => Announced::Nothing,
+        Read::Refused(_) => LineCall::Nothing,
     }
 }
 
@@ -63,16 +63,16 @@ fn choice(first: &[u8], second: &[u8]) -> u8
     let one = line_announced(first);
     let other = line_announced(second);
     match one {
-        Announced::Call(call) => match other {
-            Announced::Call(other_call) => calls_choice(call, other_call),
-            Announced::Nothing => 0,
+        LineCall::Call(call) => match other {
+            LineCall::Call(other_call) => calls_choice(call, other_call),
+            LineCall::Nothing => 0,
         },
-        Announced::Nothing => 0,
+        LineCall::Nothing => 0,
     }
 }
 
 // The number of the question which of two lines is chosen: that of the first line, else that of the second, else 10
-// where a line is no announcement, the groups differ or the identifiers are equal, else 0.
+// where they do not announce two calls of one group with two identifiers, else 0.
 pub fn choose_number(first: &[u8], second: &[u8]) -> u8
     ensures { λ r. ⌜ r ≡ choiceNumber (now (first .entry)) (now (second .entry)) ⌝ }
 {
@@ -90,7 +90,7 @@ pub fn choose_number(first: &[u8], second: &[u8]) -> u8
     0
 }
 
-// The line of the better call, itself and no copy; where the number is not 0, the empty part at the front of the first.
+// The line of the better call, itself and no copy; where the number is not 0, no bytes where the first line begins.
 pub fn choose<'a>(first: &'a [u8], second: &'a [u8]) -> &'a [u8]
     ensures { λ r. ⌜ place r
         ≡ placeOf (choiceOf (now (first .entry)) (now (second .entry))) (first .entry) (second .entry) ⌝ }

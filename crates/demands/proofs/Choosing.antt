@@ -51,7 +51,7 @@ line-reflects k first second =
 choice-reflects : (first second : List ℕ) → Reflects (not (linesChoosable first second)) (NoChoice first second)
 choice-reflects first second = Iff·trans (not-true (linesChoosable first second), λ e. ap not e) (no-choice first second)
 
--- the first line's number, the second's, then 10
+-- a number of the first line, else one of the second, else 10
 pub choose-number-exactly-when : (first second : List ℕ) → ExactlyWhen (choiceNumber first second) (Unit {0}) (choiceTable first second)
 unfolding choiceNumber
 choose-number-exactly-when first second =

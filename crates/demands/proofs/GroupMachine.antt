@@ -1,6 +1,6 @@
 -- What is asked of the steps of every call machine, proved of the group call machine. Assumes nothing.
 use Prim.Native.Nat.{ℕ, _≤_}
-use mathlib.Core.Path.{_≡_, refl, sym, ap, _∙_, subst}
+use mathlib.Core.Path.{_≡_, sym, ap, _∙_, subst}
 use mathlib.Core.Bool.{not}
 use lib.Dec.{ltb, eqb}
 use borrow.Author.Tests.{eq-eqb, ltb-false, le-ltb, not-true}
@@ -20,7 +20,7 @@ use Rattle.group_rows.specs.declared.states.GroupRecord.{GroupRecord}
 use Rattle.group_rows.specs.declared.rows.Row.the-variants.{G9}
 use Rattle.group_call.specs.declared.Stepped.{Stepped}
 use Rattle.group_rows.proofs.Meets.{same-row}
-use Rattle.group_call.proofs.Keeping.{carried-sends-good}
+use Rattle.group_call.proofs.Keeping.{has-set, carried-sends-good}
 use Rattle.group_call.proofs.Steps.{number-told, step-number, step-done, step-refused, row-0-keeps, keeps-well-formed, timers-agree}
 use Rattle.group_call.proofs.GeneralRules.{step-change-stops, step-spares-ran-out}
 use Rattle.demands.specs.Machines.{KeepsWellFormed, SendsGood, TimersAgree, ChangeStops, SparesRanOut, ChangeNotLater, groupAnswer, groupMachine}
@@ -44,9 +44,7 @@ group-sends-good s g i h w n a f m e =
 running-one : (was stopped out started : Timers) (t : GroupTimer)
     → has (runningAfter was stopped out started) t ≡ runsAfter (has was t) (has stopped t) (has out t) (has started t)
 unfolding runningAfter
-running-one was stopped out started GroupTimer.Tfg2 = refl
-running-one was stopped out started GroupTimer.Tfg4 = refl
-running-one was stopped out started GroupTimer.Tfg6 = refl
+running-one was stopped out started = has-set (λ t. runsAfter (has was t) (has stopped t) (has out t) (has started t))
 
 -- its timers agree
 pub group-timers-agree : TimersAgree groupMachine

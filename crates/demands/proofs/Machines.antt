@@ -1,11 +1,12 @@
 -- What is asked of the steps of every call machine, proved of the private one. Assumes nothing.
-use mathlib.Core.Path.{_≡_, refl, sym, ap, _∙_, subst}
+use mathlib.Core.Path.{_≡_, sym, ap, _∙_, subst}
 use Rattle.call.specs.Timing.{runsAfter}
 use Rattle.call.specs.declared.PrivateTimer.{PrivateTimer}
 use Rattle.call.specs.declared.Send.{Send}
 use Rattle.call.proofs.Stepping.{SentGood}
 use Rattle.private_rows.specs.Phases.{has}
 use Rattle.private_rows.specs.declared.states.Timers.{Timers}
+use Rattle.private_rows.proofs.WellFormed.{has-set}
 use Rattle.private_effects.specs.Carried.{runningAfter}
 use Rattle.private_call.specs.Step.{doneOf}
 use Rattle.private_call.proofs.Keeping.{carried-sends-good}
@@ -27,12 +28,7 @@ private-sends-good s p i g w h a f m e =
 running-one : (was stopped out started : Timers) (t : PrivateTimer)
     → has (runningAfter was stopped out started) t ≡ runsAfter (has was t) (has stopped t) (has out t) (has started t)
 unfolding runningAfter
-running-one was stopped out started PrivateTimer.Tfp1 = refl
-running-one was stopped out started PrivateTimer.Tfp2 = refl
-running-one was stopped out started PrivateTimer.Tfp3 = refl
-running-one was stopped out started PrivateTimer.Tfp4 = refl
-running-one was stopped out started PrivateTimer.Tfp5 = refl
-running-one was stopped out started PrivateTimer.Tfp7 = refl
+running-one was stopped out started = has-set (λ t. runsAfter (has was t) (has stopped t) (has out t) (has started t))
 
 -- its timers agree
 pub private-timers-agree : TimersAgree privateMachine

@@ -75,7 +75,7 @@ answerTable log out = (6, length out < length (answerOf log)) ∷ []
 abbrev pub LineRefused : ℕ → List ℕ → List ℕ → Type 0
 LineRefused n first second = (lineNumber first ≡ n) ⊎ ((lineNumber first ≡ 0) × (lineNumber second ≡ n))
 
--- its table; 10: a line is no announcement, the groups differ, or the identifiers are equal
+-- its table; 10: the lines do not announce two calls of one group with two identifiers
 abbrev pub choiceTable : List ℕ → List ℕ → List (ℕ × Type 0)
 choiceTable first second =
     (1, LineRefused 1 first second) ∷ (2, LineRefused 2 first second) ∷ (3, LineRefused 3 first second) ∷ (4, LineRefused 4 first second)

@@ -16,9 +16,9 @@ use Rattle.group_rows.specs.declared.states.State.{State}
 use Rattle.group_rows.specs.declared.states.GroupRecord.{GroupRecord}
 use Rattle.demands.specs.Played.{five, six}
 
--- user 7 of group 3, who asks before a call is joined
-abbrev pub askingCrew : Settings
-askingCrew = record { «own_user» = 7; «own_group» = 3; restrict = false; acknowledgement = true; limits = record { cfp1 = 3; cfp3 = 3; cfp4 = 3 } }
+-- user 7 of group 3, who is asked before a call is joined
+abbrev pub askedCrew : Settings
+askedCrew = record { «own_user» = 7; «own_group» = 3; restrict = false; acknowledgement = true; limits = record { cfp1 = 3; cfp3 = 3; cfp4 = 3 } }
 
 -- a call of this group: identifier, type, who made it and changed it last, start, last change
 abbrev pub callIn : ℕ → ℕ → ℕ → ℕ → ℕ → ℕ → GroupCall
@@ -42,9 +42,9 @@ mine type = callIn 3 16 type 7 1000 1000
 abbrev pub heard : ℕ → GroupCall
 heard type = callIn 3 17 type 9 2000 2000
 
--- call 16 that user 7 made at 1000, raised to a type by somebody at a time
-abbrev pub raised : ℕ → ℕ → ℕ → GroupCall
-raised type change changer =
+-- call 16 that user 7 made at 1000, its type changed by somebody at a time
+abbrev pub changed : ℕ → ℕ → ℕ → GroupCall
+changed type change changer =
     record {
       identifier = 16;
       group = 3;

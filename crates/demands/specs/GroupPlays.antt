@@ -12,7 +12,7 @@ use Rattle.group_rows.specs.Formed.{clearedRecord}
 use Rattle.group_rows.specs.declared.states.State.{State}
 use Rattle.demands.specs.Machines.{groupMachine}
 use Rattle.demands.specs.Played.{crewWith, crew, five, six, hears, does, expires}
-use Rattle.demands.specs.GroupPlayed.{askingCrew, callIn, mine, heard, raised, inCall, goesOn, announces, doesInGroup, startsGroup, raises, groupExpires}
+use Rattle.demands.specs.GroupPlayed.{askedCrew, callIn, mine, heard, changed, inCall, goesOn, announces, doesInGroup, startsGroup, raises, groupExpires}
 use Rattle.demands.specs.RowPlays.{Play, play}
 use Rattle.demands.specs.Strays.{Stray, Refusal}
 
@@ -21,12 +21,12 @@ unfoldable pub groupPlays : List (Play groupMachine)
 groupPlays =
     play 1 crew clearedRecord (startsGroup 2 30 1) noTimer tfg2And6 (goesOn (mine 2)) "0800100000000302001e0000000500000007000003e8000003e80000000701\n"
     ∷ play 2 crew (goesOn (mine 2)) (groupExpires GroupTimer.Tfg2) noTimer tfg2 (goesOn (mine 2)) "0800100000000302001e0000000500000007000003e8000003e80000000700\n"
-    ∷ play 3 askingCrew clearedRecord (announces (heard 1) 1) noTimer tfg4 (inCall State.S5 (heard 1) six) ""
-    ∷ play 3 askingCrew clearedRecord (announces (heard 1) 0) noTimer tfg4 (inCall State.S4 (heard 1) six) ""
+    ∷ play 3 askedCrew clearedRecord (announces (heard 1) 1) noTimer tfg4 (inCall State.S5 (heard 1) six) ""
+    ∷ play 3 askedCrew clearedRecord (announces (heard 1) 0) noTimer tfg4 (inCall State.S4 (heard 1) six) ""
     ∷ play 4 crew clearedRecord (announces (heard 3) 1) noTimer tfg2And6 (inCall State.S3 (heard 3) six) "090011000000070300000003\n"
     ∷ play 4 crew clearedRecord (announces (heard 3) 0) noTimer tfg2And6 (inCall State.S3 (heard 3) six) ""
-    ∷ play 5 askingCrew (inCall State.S5 (heard 1) six) (doesInGroup GroupAction.Accept) tfg4 tfg2And6 (inCall State.S3 (heard 1) six) "090011000000070100000003\n"
-    ∷ play 6 askingCrew (inCall State.S4 (heard 1) six) (doesInGroup GroupAction.Accept) tfg4 tfg2And6 (inCall State.S3 (heard 1) six) ""
+    ∷ play 5 askedCrew (inCall State.S5 (heard 1) six) (doesInGroup GroupAction.Accept) tfg4 tfg2And6 (inCall State.S3 (heard 1) six) "090011000000070100000003\n"
+    ∷ play 6 askedCrew (inCall State.S4 (heard 1) six) (doesInGroup GroupAction.Accept) tfg4 tfg2And6 (inCall State.S3 (heard 1) six) ""
     ∷ play 7 crew (inCall State.S4 (heard 1) six) (doesInGroup GroupAction.Reject) tfg4 noTimer clearedRecord ""
     ∷ play 7 crew (inCall State.S5 (heard 1) six) (groupExpires GroupTimer.Tfg4) noTimer noTimer clearedRecord ""
     ∷ play 8 crew (goesOn (mine 1)) (doesInGroup GroupAction.Leave) tfg2And6 noTimer clearedRecord ""
@@ -35,8 +35,8 @@ groupPlays =
     ∷ play 10 crew (goesOn (mine 1)) (announces (heard 2) 1) tfg2And6 tfg2And6 (inCall State.S3 (heard 2) six) ""
     ∷ play 10 crew (goesOn (mine 3)) (announces (callIn 3 17 3 9 999 3000) 0) tfg2And6 tfg2And6 (inCall State.S3 (callIn 3 17 3 9 999 3000) six) ""
     ∷ play 10 crew (goesOn (mine 3)) (announces (callIn 3 15 3 9 1000 1000) 0) tfg2And6 tfg2And6 (inCall State.S3 (callIn 3 15 3 9 1000 1000) six) ""
-    ∷ play 11 crew (goesOn (mine 1)) (announces (callIn 3 16 2 9 900 1001) 0) tfg2 tfg2 (goesOn (raised 2 1001 9)) ""
-    ∷ play 11 crew (goesOn (mine 2)) (announces (callIn 3 16 1 9 900 1001) 0) tfg2 tfg2 (goesOn (raised 1 1001 9)) ""
+    ∷ play 11 crew (goesOn (mine 1)) (announces (callIn 3 16 2 9 900 1001) 0) tfg2 tfg2 (goesOn (changed 2 1001 9)) ""
+    ∷ play 11 crew (goesOn (mine 2)) (announces (callIn 3 16 1 9 900 1001) 0) tfg2 tfg2 (goesOn (changed 1 1001 9)) ""
     ∷ play 11 crew (goesOn (mine 1)) (announces (callIn 3 16 2 9 900 1000) 0) tfg2 tfg2 (goesOn (mine 1)) ""
     ∷ []
 

@@ -109,7 +109,7 @@ setup k =
     SetupRequest (record { identifier = 0x1234; caller = 7; callee = 9 })
     (record { commencement = 0; «call_type» = 4; «pck_id» = k })
 
--- the cases by their letters; E to H for every record and I and J for every call, and each for one, so that there is one
+-- the cases by their letters; E to H for every record and I and J for every two calls; each is also computed for one, which shows that there are such
 unfoldable pub table : List (String × Case)
 table =
     ("A", reads (bytes "0212340000000700000009\n") (reading ringing noMedia))

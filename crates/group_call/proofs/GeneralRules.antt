@@ -1,6 +1,6 @@
 -- The rules that hold for all rows, of the answer of a step that is not refused. Assumes nothing.
 use Prim.Native.Nat.{ℕ}
-use mathlib.Core.Path.{_≡_, refl, sym, _∙_, subst}
+use mathlib.Core.Path.{_≡_, sym, _∙_, subst}
 use mathlib.Core.List.{List}
 use mathlib.Core.Bool.{Bool, true, false}
 use lib.Dec.{eqb}
@@ -19,15 +19,14 @@ use Rattle.group_rows.specs.declared.states.Timers.{Timers}
 use Rattle.group_rows.specs.declared.states.GroupRecord.{GroupRecord}
 use Rattle.group_call.specs.declared.effects.Effect.{Effect}
 use Rattle.group_call.specs.declared.Stepped.{Stepped}
+use Rattle.group_call.proofs.Keeping.{has-set}
 use Rattle.group_call.proofs.Steps.{step-done}
 
 -- whether a timer is stopped
 stopped-one : (changed : Bool) (asked was started out : Timers) (t : GroupTimer)
     → has (stoppedOf changed asked was started out) t ≡ isStopped changed (has asked t) (has was t) (has started t) (has out t)
 unfolding stoppedOf
-stopped-one changed asked was started out GroupTimer.Tfg2 = refl
-stopped-one changed asked was started out GroupTimer.Tfg4 = refl
-stopped-one changed asked was started out GroupTimer.Tfg6 = refl
+stopped-one changed asked was started out = has-set (λ t. isStopped changed (has asked t) (has was t) (has started t) (has out t))
 
 module _ (s : Settings) (g : GroupRecord) (i : Input) where
   -- what the row that is met does

@@ -12,11 +12,12 @@ use Rattle.frame.specs.declared.Message.the-variants.{Announcement}
 use Rattle.frame.proofs.Laws.{and-split}
 use Rattle.call.specs.Announced.{announcedOf}
 use Rattle.call.specs.declared.Settings.{Settings}
+use Rattle.call.specs.declared.GroupTimer.{GroupTimer}
 use Rattle.call.specs.declared.Input.{Input}
 use Rattle.call.specs.declared.Announced.{Announced}
 use Rattle.call.proofs.Laws.{both, beq-same}
 use Rattle.call.proofs.Stepping.{Taken, SentGood}
-use Rattle.group_rows.specs.States.{sameTimers, runningOf}
+use Rattle.group_rows.specs.States.{has, setOf, sameTimers, runningOf}
 use Rattle.group_rows.specs.Formed.{callNone, callHeld, callGood, wellFormed}
 use Rattle.group_rows.specs.Causes.{causeOf, factsOf}
 use Rattle.group_rows.specs.Rows.{rowOf}
@@ -46,6 +47,12 @@ same-timers a b e =
       tfg4 = beq-same (a .tfg4) (b .tfg4) (q .0) i;
       tfg6 = beq-same (a .tfg6) (b .tfg6) (q .1) i;
     }
+
+-- a timer is in the set of those that pass a test exactly if it passes
+pub has-set : (q : GroupTimer → Bool) (t : GroupTimer) → has (setOf q) t ≡ q t
+has-set q GroupTimer.Tfg2 = refl
+has-set q GroupTimer.Tfg4 = refl
+has-set q GroupTimer.Tfg6 = refl
 
 -- what is known of it
 pub record Fit (s : Settings) (g : GroupRecord) : Type 0 where

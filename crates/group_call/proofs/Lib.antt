@@ -6,5 +6,6 @@ pub mod Keeping
 pub mod Discarding
 pub mod Steps
 pub mod GeneralRules
+pub mod Unheeded
 pub mod Merging
 pub mod NoMixture

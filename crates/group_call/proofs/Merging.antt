@@ -83,10 +83,10 @@ module _ (s : Settings) (stored : GroupCall) (own : Media) (call : GroupCall) (c
       carries s (ongoing stored own) (hears call confirm media v) out G10 (not-early G10 r refl) r refl
 
   -- a call with another identifier that is not better is passed over
-  pub other-discarded : eqb (call .group) (s .«own_group») ≡ true → sameIdentifier call stored ≡ false → isBetter call stored ≡ false
+  pub not-better-discarded : eqb (call .group) (s .«own_group») ≡ true → sameIdentifier call stored ≡ false → isBetter call stored ≡ false
       → (stepOf s (ongoing stored own) (hears call confirm media v) out ≡ discarded (ongoing stored own))
       × (stepBuffer s (ongoing stored own) (hears call confirm media v) out ≡ out)
-  other-discarded o a b =
+  not-better-discarded o a b =
       let r = own-row o ∙ (λ j. cond (a j) G11 (cond (b j) G10 Discard)) in
       discards s (ongoing stored own) (hears call confirm media v) out (not-early Discard r refl) r
 
@@ -98,11 +98,3 @@ module _ (s : Settings) (stored : GroupCall) (own : Media) (call : GroupCall) (c
   same-refreshed o a =
       let r = own-row o ∙ (λ j. cond (a j) G11 (cond (isBetter call stored) G10 Discard)) in
       carries s (ongoing stored own) (hears call confirm media v) out G11 (not-early G11 r refl) r refl
-
-  -- an announcement of another group is not heard
-  pub other-group-discarded : eqb (call .group) (s .«own_group») ≡ false
-      → (stepOf s (ongoing stored own) (hears call confirm media v) out ≡ discarded (ongoing stored own))
-      × (stepBuffer s (ongoing stored own) (hears call confirm media v) out ≡ out)
-  other-group-discarded o =
-      let r = ap (λ (b : Bool). rowIn State.S3 (cond b Cause.AnnouncementHeard Cause.Other) facts) o ∙ sym (found-is-met State.S3 Cause.Other facts) in
-      discards s (ongoing stored own) (hears call confirm media v) out (not-early Discard r refl) r

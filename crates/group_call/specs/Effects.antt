@@ -34,7 +34,7 @@ waits confirm = cond confirm State.S5 State.S4
 abbrev pub confirms : Bool → Say
 confirms confirm = cond confirm Say.Accept Say.Nothing
 
--- the table of the rows: the state entered, the timers started, the call held, the message sent
+-- the table of the rows: the state entered, the timers started anew, the call held, the message sent
 abbrev pub effectOf : Row → State → Bool → Effect
 effectOf Discard state confirm = stays state Hold.Keep Say.Nothing
 effectOf G1 state confirm = enters State.S3 tfg2And6 Hold.Announced Say.FirstAnnouncement

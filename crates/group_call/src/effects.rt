@@ -14,7 +14,7 @@ pub enum Hold {
     Announced,
     // The stored one, with another type, time of the last change and changer.
     Change,
-    // The same where the change is later than the stored one, else the stored one.
+    // As Change where the change is later than the stored one, else as Keep.
     LaterChange,
     // None.
     Clear,
@@ -68,7 +68,7 @@ fn stays(state: State, hold: Hold, say: Say) -> Effect
     }
 }
 
-// A row that starts a timer while the state stays.
+// A row that starts a timer while state and call stay.
 fn starts(state: State, start: Timers, say: Say) -> Effect
     ensures { λ r. ⌜ r ≡ startsOf state start say ⌝ }
 {

@@ -12,7 +12,7 @@ rankOf type = cond (eqb type 2) 0 (cond (eqb type 3) 1 2)
 abbrev pub byFirst : ℕ → ℕ → Bool → Bool
 byFirst m n rest = ltb m n || (eqb m n && rest)
 
--- one call is better than another: by rank, then by the earlier start, then by the lower identifier
+-- whether the first call is better than the second: the rank decides, then the earlier start, then the lower identifier
 abbrev pub isBetter : GroupCall → GroupCall → Bool
 isBetter a b =
     byFirst (rankOf (a .«call_type»)) (rankOf (b .«call_type»))

@@ -2,11 +2,12 @@
 use Prim.Native.Nat.{ℕ}
 use mathlib.Core.Path.{_≡_, refl, sym, ap, _∙_}
 use mathlib.Core.List.{List, [], _∷_}
-use mathlib.Core.Bool.{Bool, true, cond, not, _&&_}
+use mathlib.Core.Bool.{Bool, true}
 use lib.ListN.{getD}
 use lib.Dec.{eqb}
 use borrow.Author.Tests.{eqb-true}
-use Rattle.group_rows.specs.Rows.{rowNumber, rowsAsk, firstMet, rowIn}
+use Rattle.call.specs.Meeting.{firstMet, oneMet}
+use Rattle.group_rows.specs.Rows.{rowNumber, rowsAsk, rowIn}
 use Rattle.group_rows.specs.Found.{atOf, foundAt}
 use Rattle.group_rows.specs.declared.states.State.{State}
 use Rattle.group_rows.specs.declared.causes.Cause.{Cause}
@@ -40,28 +41,18 @@ same-row a b e = sym (row-back a) ∙ ap (λ (n : ℕ). getD rows n Discard) (eq
 
 -- the row found is the row met
 abbrev finds : State → Cause → Facts → Bool
-finds f c x = eqb (rowNumber (foundAt (atOf f) c x)) (rowNumber (firstMet (rowsAsk f c x)))
+finds f c x = eqb (rowNumber (foundAt (atOf f) c x)) (rowNumber (firstMet Discard (rowsAsk f c x)))
 
 -- everywhere
 pub found-is-met : (f : State) (c : Cause) (x : Facts) → foundAt (atOf f) c x ≡ rowIn f c x
 unfolding rowIn
-found-is-met f c x = same-row (foundAt (atOf f) c x) (firstMet (rowsAsk f c x)) (anywhere finds refl f c x)
+found-is-met f c x = same-row (foundAt (atOf f) c x) (firstMet Discard (rowsAsk f c x)) (anywhere finds refl f c x)
 
 -- what is computed of the row found, everywhere, holds of the row met, anywhere
 pub each-row : (q : State → Cause → Row → Bool) → everywhere (λ f c x. q f c (foundAt (atOf f) c x)) ≡ true
     → (f : State) (c : Cause) (x : Facts) → q f c (rowIn f c x) ≡ true
 each-row q t f c x = ap (q f c) (sym (found-is-met f c x)) ∙ anywhere (λ f c x. q f c (foundAt (atOf f) c x)) t f c x
 
--- no row of a list is met
-abbrev pub noneMet : List (Row × Bool) → Bool
-noneMet [] = true
-noneMet (row ∷ rows) = not (row .1) && noneMet rows
-
--- one row at most is met
-abbrev pub oneMet : List (Row × Bool) → Bool
-oneMet [] = true
-oneMet (row ∷ rows) = cond (row .1) (noneMet rows) (oneMet rows)
-
--- everywhere
+-- one row at most is met, everywhere
 pub rows-apart : (f : State) (c : Cause) (x : Facts) → oneMet (rowsAsk f c x) ≡ true
 rows-apart = anywhere (λ f c x. oneMet (rowsAsk f c x)) refl

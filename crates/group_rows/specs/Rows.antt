@@ -1,9 +1,10 @@
 -- Which row an event meets: the rows G1 to G11, each with all that it asks. Assumes nothing.
 use Prim.Native.Nat.{ℕ}
 use mathlib.Core.List.{List, [], _∷_}
-use mathlib.Core.Bool.{Bool, cond, not, _&&_, _||_}
+use mathlib.Core.Bool.{Bool, not, _&&_, _||_}
 use lib.Dec.{eqb}
 use Rattle.call.specs.Announced.{announcedOf}
+use Rattle.call.specs.Meeting.{firstMet}
 use Rattle.call.specs.declared.Settings.{Settings}
 use Rattle.call.specs.declared.GroupTimer.{GroupTimer}
 use Rattle.call.specs.declared.Event.{Event}
@@ -82,16 +83,11 @@ rowsAsk f c x =
     ∷ (G11, inState 3 f && (announced c && x .same))
     ∷ []
 
--- the first row of a list for which all that it asks holds; Discard where there is none
-abbrev pub firstMet : List (Row × Bool) → Row
-firstMet [] = Discard
-firstMet (row ∷ rows) = cond (row .1) (row .0) (firstMet rows)
-
 -- ---- the row that an event meets
 
--- the row that is met in a state
+-- the row that is met in a state: the first for which all that it asks holds; Discard where there is none
 unfoldable pub rowIn : State → Cause → Facts → Row
-rowIn state c x = firstMet (rowsAsk state c x)
+rowIn state c x = firstMet Discard (rowsAsk state c x)
 
 -- the row that an event meets from a record
 abbrev pub rowOf : Settings → GroupRecord → Event → Row

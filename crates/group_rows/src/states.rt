@@ -5,7 +5,7 @@ ghost use Rattle.group_rows.specs.Formed.{clearedRecord};
 use frame::GroupCall;
 use frame::Media;
 
-// The states: start-stop; ongoing; waiting for the user, without and with confirm.
+// The states: start-stop, ongoing, and two in which the user is asked, S4 without confirm and S5 with it.
 pub enum State {
     S1,
     S3,

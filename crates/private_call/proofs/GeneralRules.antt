@@ -14,6 +14,7 @@ use Rattle.private_rows.specs.declared.states.Timers.{Timers}
 use Rattle.private_rows.specs.declared.states.PrivateRecord.{PrivateRecord}
 use Rattle.private_rows.specs.Rows.{rowOf}
 use Rattle.private_rows.specs.declared.rows.Row.{Row}
+use Rattle.private_rows.proofs.WellFormed.{has-set}
 use Rattle.private_effects.specs.Effects.{effectOf}
 use Rattle.private_effects.specs.Carried.{ranOut, changes, startedOf, stoppedOf, countersAfter, startedBy, carryOut}
 use Rattle.private_effects.specs.declared.effects.Effect.{Effect}
@@ -26,12 +27,7 @@ use Rattle.private_call.proofs.Steps.{step-done}
 stopped-one : (changed : Bool) (asked was started out : Timers) (t : PrivateTimer) → has (stoppedOf changed asked was started out) t
     ≡ isStopped changed (has asked t) (has was t) (has started t) (has out t)
 unfolding stoppedOf
-stopped-one changed asked was started out PrivateTimer.Tfp1 = refl
-stopped-one changed asked was started out PrivateTimer.Tfp2 = refl
-stopped-one changed asked was started out PrivateTimer.Tfp3 = refl
-stopped-one changed asked was started out PrivateTimer.Tfp4 = refl
-stopped-one changed asked was started out PrivateTimer.Tfp5 = refl
-stopped-one changed asked was started out PrivateTimer.Tfp7 = refl
+stopped-one changed asked was started out = has-set (λ t. isStopped changed (has asked t) (has was t) (has started t) (has out t))
 
 module _ (s : Settings) (p : PrivateRecord) (i : Input) (row : Row) where
   -- what the row does

@@ -2,10 +2,10 @@
 use Prim.Native.Nat.{ℕ}
 use mathlib.Core.Path.{_≡_, refl, sym, ap, _∙_}
 use mathlib.Core.List.{List}
-use mathlib.Core.Bool.{Bool, true, false, cond}
+use mathlib.Core.Bool.{true, false, cond}
 use lib.ListN.{length}
 use lib.Dec.{eqb}
-use borrow.Author.Tests.{eq-eqb, eqb-true}
+use borrow.Author.Tests.{eq-eqb, ne-eqb}
 use Rattle.frame.specs.Lent.{lentAfter}
 use Rattle.call.specs.Settings.{settingsGood}
 use Rattle.call.specs.Sending.{lineSent, sendNumber}
@@ -13,6 +13,7 @@ use Rattle.call.specs.declared.Settings.{Settings}
 use Rattle.call.specs.declared.Input.{Input}
 use Rattle.call.proofs.Stepping.{Taken, SentGood, number-passed}
 use Rattle.call.proofs.Stepping as stepping
+use Rattle.call.proofs.Answers.{by-cases}
 use Rattle.private_rows.specs.Formed.{wellFormed}
 use Rattle.private_rows.specs.Rows.{rowNumber, rowOf}
 use Rattle.private_rows.specs.declared.states.PrivateRecord.{PrivateRecord}
@@ -30,6 +31,10 @@ use Rattle.private_call.specs.Step.{identifierTaken, numberBeforeSending
 -- ---- what a number 0 shows
 
 module _ (s : Settings) (p : PrivateRecord) (i : Input) where
+  -- the answer of a step that is carried out
+  abbrev moved : Stepped
+  moved = movedOf (rowOf s p i) (doneOf s p i) (length (stepLine s p i))
+
   -- the tests passed
   pub tests-passed : numberBeforeSending s p i ≡ 0 → Taken s (wellFormed s p) i × (identifierTaken s p (i .event) (rowOf s p i) ≡ false)
   tests-passed = stepping.tests-passed s (wellFormed s p) i (identifierTaken s p (i .event) (rowOf s p i))
@@ -40,31 +45,23 @@ module _ (s : Settings) (p : PrivateRecord) (i : Input) where
   step-passed = number-passed (numberBeforeSending s p i) (doneOf s p i .sent) (doneOf s p i .next .call .media)
 
   -- the answer of a step that is not refused: what its row carries out, with the length of its line
-  pub step-done : (out : List ℕ) → stepNumber s p i out ≡ 0 → stepOf s p i out ≡ movedOf (rowOf s p i) (doneOf s p i) (length (stepLine s p i))
+  pub step-done : (out : List ℕ) → stepNumber s p i out ≡ 0 → stepOf s p i out ≡ moved
   unfolding stepOf
   step-done out e = rw (eq-eqb (stepNumber s p i out) 0 e) refl
 
   -- the number of the answer
   pub number-told : (out : List ℕ) → stepOf s p i out .number ≡ stepNumber s p i out
   unfolding stepOf
-  number-told out = go (eqb (stepNumber s p i out) 0) refl
-    where
-      go : (b : Bool) → eqb (stepNumber s p i out) 0 ≡ b
-          → cond b (movedOf (rowOf s p i) (doneOf s p i) (length (stepLine s p i))) (refusedOf (stepNumber s p i out) p) .number ≡ stepNumber s p i out
-      go true t = sym (eqb-true (stepNumber s p i out) 0 t)
-      go false t = refl
+  number-told out = by-cases (stepNumber s p i out) moved (λ n. refusedOf n p) (λ x. x .number ≡ stepNumber s p i out) (λ e. sym e) (λ f. refl)
 
   -- ---- keeps-well-formed
 
   -- the record after a step from good settings and a well-formed record is well formed
   pub keeps-well-formed : (out : List ℕ) → settingsGood s ≡ true → wellFormed s p ≡ true → wellFormed s (stepOf s p i out .next) ≡ true
   unfolding stepOf
-  keeps-well-formed out g w = go (eqb (stepNumber s p i out) 0) refl
-    where
-      go : (b : Bool) → eqb (stepNumber s p i out) 0 ≡ b
-          → wellFormed s (cond b (movedOf (rowOf s p i) (doneOf s p i) (length (stepLine s p i))) (refusedOf (stepNumber s p i out) p) .next) ≡ true
-      go true t = carried-well-formed s p i (tests-passed (step-passed out (eqb-true _ 0 t) .0) .0)
-      go false t = w
+  keeps-well-formed out g w =
+      by-cases (stepNumber s p i out) moved (λ n. refusedOf n p) (λ x. wellFormed s (x .next) ≡ true)
+      (λ e. carried-well-formed s p i (tests-passed (step-passed out e .0) .0)) (λ f. w)
 
   -- ---- sends-good
 
@@ -104,13 +101,9 @@ discards s p i out e r =
 pub row-0-keeps : (s : Settings) (p : PrivateRecord) (i : Input) (out : List ℕ) → stepOf s p i out .row ≡ 0
     → (stepOf s p i out ≡ refusedOf (stepNumber s p i out) p) × (stepBuffer s p i out ≡ out)
 unfolding stepOf stepBuffer
-row-0-keeps s p i out e = go (eqb (stepNumber s p i out) 0) refl e
-  where
-    go : (b : Bool) → eqb (stepNumber s p i out) 0 ≡ b
-        → cond b (movedOf (rowOf s p i) (doneOf s p i) (length (stepLine s p i))) (refusedOf (stepNumber s p i out) p) .row ≡ 0
-        → (stepOf s p i out ≡ refusedOf (stepNumber s p i out) p) × (stepBuffer s p i out ≡ out)
-    go true t h =
-        let z = eqb-true (stepNumber s p i out) 0 t in
-        let d = discards s p i out (step-passed s p i out z .0) (same-row (rowOf s p i) Discard (eq-eqb (rowNumber (rowOf s p i)) 0 h)) in
-        (d .0 ∙ ap (λ (n : ℕ). refusedOf n p) (sym z), d .1)
-    go false t h = rw (t) (refl, refl)
+row-0-keeps s p i out =
+    by-cases (stepNumber s p i out) (moved s p i) (λ n. refusedOf n p)
+    (λ x. x .row ≡ 0 → (stepOf s p i out ≡ refusedOf (stepNumber s p i out) p) × (stepBuffer s p i out ≡ out))
+    (λ z h.
+    let d = discards s p i out (step-passed s p i out z .0) (same-row (rowOf s p i) Discard (eq-eqb (rowNumber (rowOf s p i)) 0 h)) in
+    (d .0 ∙ ap (λ (n : ℕ). refusedOf n p) (sym z), d .1)) (λ f h. rw (ne-eqb (stepNumber s p i out) 0 f) (refl, refl))

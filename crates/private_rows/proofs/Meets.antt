@@ -6,9 +6,10 @@ use mathlib.Core.Bool.{Bool, true, false, _||_, true≢false}
 use lib.ListN.{getD}
 use lib.Dec.{eqb}
 use borrow.Author.Tests.{eqb-true}
+use Rattle.call.specs.Meeting.{firstMet}
 use Rattle.call.specs.declared.PrivateTimer.{PrivateTimer}
 use Rattle.private_rows.specs.Causes.{privateTimerCause}
-use Rattle.private_rows.specs.Rows.{rowNumber, runs, rowIn, rowsAsk, firstMet}
+use Rattle.private_rows.specs.Rows.{rowNumber, runs, rowIn, rowsAsk}
 use Rattle.private_rows.specs.Found.{atOf, foundAt}
 use Rattle.private_rows.specs.declared.states.Phase.{Phase}
 use Rattle.private_rows.specs.declared.causes.Cause.{Cause}
@@ -60,12 +61,12 @@ same-row a b e = sym (row-back a) ∙ ap (λ (n : ℕ). getD rows n Discard) (eq
 
 -- the row found is the row met
 abbrev finds : Phase → Cause → Facts → Bool
-finds f c x = eqb (rowNumber (foundAt (atOf f) c x)) (rowNumber (firstMet (rowsAsk f c x)))
+finds f c x = eqb (rowNumber (foundAt (atOf f) c x)) (rowNumber (firstMet Discard (rowsAsk f c x)))
 
 -- everywhere
 pub found-is-met : (f : Phase) (c : Cause) (x : Facts) → foundAt (atOf f) c x ≡ rowIn f c x
 unfolding rowIn
-found-is-met f c x = same-row (foundAt (atOf f) c x) (firstMet (rowsAsk f c x)) (anywhere finds refl f c x)
+found-is-met f c x = same-row (foundAt (atOf f) c x) (firstMet Discard (rowsAsk f c x)) (anywhere finds refl f c x)
 
 -- what is computed of the row found, everywhere, holds of the row met, anywhere
 pub each-row : (q : Phase → Cause → Row → Bool) → everywhere (λ f c x. q f c (foundAt (atOf f) c x)) ≡ true

@@ -3,8 +3,9 @@ use mathlib.Core.Path.{_≡_, refl}
 use mathlib.Core.Bool.{Bool, true, false, cond, Bool·beq}
 use Rattle.frame.proofs.Laws.{and-split}
 use Rattle.call.specs.declared.Settings.{Settings}
+use Rattle.call.specs.declared.PrivateTimer.{PrivateTimer}
 use Rattle.call.proofs.Laws.{beq-same}
-use Rattle.private_rows.specs.Phases.{sameTimers, stateOf, runningOf, phaseIn}
+use Rattle.private_rows.specs.Phases.{has, setOf, sameTimers, stateOf, runningOf, phaseIn}
 use Rattle.private_rows.specs.Formed.{runningGood, countersGood, callGood, wellFormed}
 use Rattle.private_rows.specs.Rows.{phaseOf}
 use Rattle.private_rows.specs.declared.states.State.{State}
@@ -28,6 +29,15 @@ same-timers a b e =
       tfp5 = beq-same (a .tfp5) (b .tfp5) (p5 .0) i;
       tfp7 = beq-same (a .tfp7) (b .tfp7) (p5 .1) i;
     }
+
+-- a timer is in the set of those that pass a test exactly if it passes
+pub has-set : (q : PrivateTimer → Bool) (t : PrivateTimer) → has (setOf q) t ≡ q t
+has-set q PrivateTimer.Tfp1 = refl
+has-set q PrivateTimer.Tfp2 = refl
+has-set q PrivateTimer.Tfp3 = refl
+has-set q PrivateTimer.Tfp4 = refl
+has-set q PrivateTimer.Tfp5 = refl
+has-set q PrivateTimer.Tfp7 = refl
 
 -- the state of the phase is the record's
 pub state-back : (state : State) (w : Timers) → state ≡ stateOf (phaseIn state w)

@@ -1,8 +1,9 @@
 -- Which row an event meets: the rows R1 to R29, each with all that it asks. Assumes nothing.
 use Prim.Native.Nat.{ℕ}
 use mathlib.Core.List.{List, [], _∷_}
-use mathlib.Core.Bool.{Bool, cond, not, _&&_, _||_}
+use mathlib.Core.Bool.{Bool, not, _&&_, _||_}
 use lib.Dec.{eqb}
+use Rattle.call.specs.Meeting.{firstMet}
 use Rattle.call.specs.declared.PrivateTimer.{PrivateTimer}
 use Rattle.call.specs.declared.Settings.{Settings}
 use Rattle.call.specs.declared.Input.{Input}
@@ -129,16 +130,11 @@ rowsAsk f c x =
     ∷ (R29, inP 4 f && (same Cause.AcceptHeard c x && x .«own_caller»))
     ∷ []
 
--- the first row of a list for which all that it asks holds; Discard where there is none
-abbrev pub firstMet : List (Row × Bool) → Row
-firstMet [] = Discard
-firstMet (row ∷ rows) = cond (row .1) (row .0) (firstMet rows)
-
 -- ---- the row that an event meets
 
--- the row that is met in a phase
+-- the row that is met in a phase: the first for which all that it asks holds; Discard where there is none
 unfoldable pub rowIn : Phase → Cause → Facts → Row
-rowIn f c x = firstMet (rowsAsk f c x)
+rowIn f c x = firstMet Discard (rowsAsk f c x)
 
 -- the phase of a record
 abbrev pub phaseOf : PrivateRecord → Phase

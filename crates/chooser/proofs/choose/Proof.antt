@@ -1,4 +1,4 @@
--- `chooser::choose` meets its contract: each return hands a line on, or the empty part at the first one's own place. Assumes nothing.
+-- `chooser::choose` meets its contract: each return hands a line on, or no bytes at the first one's own place. Assumes nothing.
 use borrow.Author.Tests.{eq-eqb, ne-eqb}
 use borrow.Author.Needs.{needs}
 use Rattle.chooser.proofs.choose.Statement.{statement}

@@ -1,9 +1,11 @@
 -- Laws of Bools, and tests that are computed for both of them. Assumes nothing.
 use Prim.Native.Nat.{ℕ, zero, suc}
-use mathlib.Core.Path.{_≡_, refl, sym}
+use mathlib.Core.Path.{_≡_, refl, sym, ap, _∙_}
 use mathlib.Core.List.{List, [], _∷_}
 use mathlib.Core.Bool.{Bool, true, false, not, _&&_, Bool·beq, false≢true}
 use lib.ListN.{getD}
+use lib.Dec.{eqb}
+use borrow.Author.Tests.{eqb-true}
 use Rattle.frame.proofs.Laws.{and-split}
 
 -- both
@@ -27,6 +29,11 @@ beq-same true true e = refl
 beq-same true false e = absurd (false≢true e)
 beq-same false true e = absurd (false≢true e)
 beq-same false false e = refl
+
+-- things that a list gives back by their numbers are equal where their numbers are
+pub by-number : {A : Type 0} (things : List A) (none : A) (number : A → ℕ) → ((a : A) → getD things (number a) none ≡ a)
+    → (a b : A) → eqb (number a) (number b) ≡ true → a ≡ b
+by-number things none number back a b e = sym (back a) ∙ ap (λ (n : ℕ). getD things n none) (eqb-true (number a) (number b) e) ∙ back b
 
 -- ---- tests of everything
 

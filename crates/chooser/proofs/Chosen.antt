@@ -12,7 +12,7 @@ use Rattle.frame.specs.Line.{lineNumber}
 use Rattle.frame.specs.declared.GroupCall.{GroupCall}
 use Rattle.frame.proofs.LineNumbers.{line-number-at-most}
 use Rattle.group_order.specs.Order.{isBetter}
-use Rattle.group_order.proofs.Order.{total, either-way}
+use Rattle.group_order.proofs.Order.{one-of-two, either-way}
 use Rattle.chooser.specs.Choice.{lineAnnounced, choosable, linesChoosable, choiceBetween, choiceOf, numberBetween, choiceNumber, place, placeOf}
 use Rattle.chooser.specs.declared.LineCall.{LineCall}
 use Rattle.chooser.specs.declared.LineCall.the-variants.{Call, Nothing}
@@ -137,7 +137,7 @@ chosen-is-better first second e = go (lineAnnounced first) (lineAnnounced second
           two-identifiers = identifiers;
           first-exactly = one;
           second-exactly = two;
-          one-better = total a b identifiers;
+          one-better = one-of-two a b identifiers;
         }
     go (Call a) Nothing h k f = absurd (false≢true f)
     go Nothing q h k f = absurd (false≢true f)

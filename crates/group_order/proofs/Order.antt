@@ -69,14 +69,14 @@ abbrev sooner : GroupCall → GroupCall → Bool
 sooner a b = byFirst (a .start) (b .start) (lower a b)
 
 -- no call is better than itself
-pub irreflexive : (a : GroupCall) → isBetter a a ≡ false
-irreflexive a =
+pub never-itself : (a : GroupCall) → isBetter a a ≡ false
+never-itself a =
     fails-first (ranks a) (ranks a) (sooner a a) (omega arith)
     (λ x. fails-first (a .start) (a .start) (lower a a) (omega arith) (λ y. le-ltb (a .identifier) (a .identifier) (omega arith)))
 
 -- what is better than a better call is better
-pub transitive : (a b c : GroupCall) → isBetter a b ≡ true → isBetter b c ≡ true → isBetter a c ≡ true
-transitive a b c =
+pub along-a-chain : (a b c : GroupCall) → isBetter a b ≡ true → isBetter b c ≡ true → isBetter a c ≡ true
+along-a-chain a b c =
     first-chain (ranks a) (ranks b) (ranks c) (sooner a b) (sooner b c) (sooner a c)
     (first-chain (a .start) (b .start) (c .start) (lower a b) (lower b c) (lower a c)
     (λ x y. let h = ltb-true (a .identifier) (b .identifier) x in let k = ltb-true (b .identifier) (c .identifier) y in lt-ltb (a .identifier) (c .identifier) (omega (arith, h, k))))
@@ -86,7 +86,7 @@ pub asymmetric : (a b : GroupCall) → isBetter a b ≡ true → isBetter b a �
 asymmetric a b e = go (isBetter b a) refl
   where
     go : (x : Bool) → isBetter b a ≡ x → x ≡ false
-    go true h = absurd (true≢false (sym (transitive a b a e h) ∙ irreflexive a))
+    go true h = absurd (true≢false (sym (along-a-chain a b a e h) ∙ never-itself a))
     go false h = refl
 
 -- where neither of two calls is better, they have the same identifier
@@ -101,8 +101,8 @@ same-identifier a b d e =
     omega arith
 
 -- of two calls with different identifiers one is better
-pub total : (a b : GroupCall) → (a .identifier ≡ b .identifier → ⊥) → (isBetter a b ≡ true) ⊎ (isBetter b a ≡ true)
-total a b f = go (isBetter a b) (isBetter b a) refl refl
+pub one-of-two : (a b : GroupCall) → (a .identifier ≡ b .identifier → ⊥) → (isBetter a b ≡ true) ⊎ (isBetter b a ≡ true)
+one-of-two a b f = go (isBetter a b) (isBetter b a) refl refl
   where
     go : (x y : Bool) → isBetter a b ≡ x → isBetter b a ≡ y → (isBetter a b ≡ true) ⊎ (isBetter b a ≡ true)
     go true y p q = inl p
@@ -121,7 +121,25 @@ either-way a b f = go (isBetter a b) refl
         other true q = refl
         other false q = absurd (f (same-identifier a b p q))
 
+-- a strict order of calls that is total where identifiers differ
+pub record StrictOrder (better : GroupCall → GroupCall → Bool) : Type 0 where
+  -- no call is better than itself
+  pub irreflexive : (a : GroupCall) → better a a ≡ false
+  -- what is better than a better call is better
+  pub transitive : (a b c : GroupCall) → better a b ≡ true → better b c ≡ true → better a c ≡ true
+  -- of two calls with different identifiers one is better
+  pub total : (a b : GroupCall) → (a .identifier ≡ b .identifier → ⊥) → (better a b ≡ true) ⊎ (better b a ≡ true)
+
+-- the order of calls is one
+pub better-is-an-order : StrictOrder isBetter
+better-is-an-order = record { irreflexive = never-itself; transitive = along-a-chain; total = one-of-two }
+
 -- ---- what decides
+
+-- nothing but ranks, starts and identifiers: a type serves only to find its rank
+pub by-these-alone : (a b c d : GroupCall) → rankOf (a .«call_type») ≡ rankOf (c .«call_type») → rankOf (b .«call_type») ≡ rankOf (d .«call_type»)
+    → a .start ≡ c .start → b .start ≡ d .start → a .identifier ≡ c .identifier → b .identifier ≡ d .identifier → isBetter a b ≡ isBetter c d
+by-these-alone a b c d r q s t i k = λ j. byFirst (r j) (q j) (byFirst (s j) (t j) (ltb (i j) (k j)))
 
 -- the better rank decides, whatever start and identifier are
 pub by-rank : (a b : GroupCall) → rankOf (a .«call_type») < rankOf (b .«call_type») → isBetter a b ≡ true

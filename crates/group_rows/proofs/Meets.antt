@@ -1,11 +1,10 @@
 -- The code finds the row that is met, and no event meets two. Assumes nothing.
-use Prim.Native.Nat.{ℕ}
 use mathlib.Core.Path.{_≡_, refl, sym, ap, _∙_}
 use mathlib.Core.List.{List, [], _∷_}
 use mathlib.Core.Bool.{Bool, true}
 use lib.ListN.{getD}
 use lib.Dec.{eqb}
-use borrow.Author.Tests.{eqb-true}
+use Rattle.call.proofs.Laws.{by-number}
 use Rattle.call.specs.Meeting.{firstMet, oneMet}
 use Rattle.group_rows.specs.Rows.{rowNumber, rowsAsk, rowIn}
 use Rattle.group_rows.specs.Found.{atOf, foundAt}
@@ -37,7 +36,7 @@ row-back G11 = refl
 
 -- rows with the same number are the same
 pub same-row : (a b : Row) → eqb (rowNumber a) (rowNumber b) ≡ true → a ≡ b
-same-row a b e = sym (row-back a) ∙ ap (λ (n : ℕ). getD rows n Discard) (eqb-true (rowNumber a) (rowNumber b) e) ∙ row-back b
+same-row = by-number rows Discard rowNumber row-back
 
 -- the row found is the row met
 abbrev finds : State → Cause → Facts → Bool

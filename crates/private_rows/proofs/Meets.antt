@@ -1,11 +1,10 @@
 -- The code finds the row that is met; the expiry of a timer that does not run meets none. Assumes nothing.
-use Prim.Native.Nat.{ℕ}
 use mathlib.Core.Path.{_≡_, refl, sym, ap, _∙_}
 use mathlib.Core.List.{List, [], _∷_}
 use mathlib.Core.Bool.{Bool, true, false, _||_, true≢false}
 use lib.ListN.{getD}
 use lib.Dec.{eqb}
-use borrow.Author.Tests.{eqb-true}
+use Rattle.call.proofs.Laws.{by-number}
 use Rattle.call.specs.Meeting.{firstMet}
 use Rattle.call.specs.declared.PrivateTimer.{PrivateTimer}
 use Rattle.private_rows.specs.Causes.{privateTimerCause}
@@ -57,7 +56,7 @@ row-back R29 = refl
 
 -- rows with the same number are the same
 pub same-row : (a b : Row) → eqb (rowNumber a) (rowNumber b) ≡ true → a ≡ b
-same-row a b e = sym (row-back a) ∙ ap (λ (n : ℕ). getD rows n Discard) (eqb-true (rowNumber a) (rowNumber b) e) ∙ row-back b
+same-row = by-number rows Discard rowNumber row-back
 
 -- the row found is the row met
 abbrev finds : Phase → Cause → Facts → Bool

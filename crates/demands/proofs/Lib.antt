@@ -11,3 +11,6 @@ pub mod Machines
 pub mod GroupMachine
 pub mod GroupPlays
 pub mod Choosing
+pub mod HearingOne
+pub mod SameCall
+pub mod TwoCabs

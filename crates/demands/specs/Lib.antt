@@ -9,3 +9,5 @@ pub mod MarkedCases
 pub mod RowPlays
 pub mod Strays
 pub mod GroupPlays
+pub mod SameCall
+pub mod TwoCabs

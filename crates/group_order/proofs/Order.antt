@@ -54,6 +54,13 @@ first-chain m n o p q r f d e =
     let (k, kq) = first-held n o q e in
     holds-first m o r (omega arith) (λ x. f (hp (omega arith)) (kq (omega arith)))
 
+-- so does its failing, as the rest's does
+failed-chain : (m n o : ℕ) (p q r : Bool) → (p ≡ false → q ≡ false → r ≡ false) → byFirst m n p ≡ false → byFirst n o q ≡ false → byFirst m o r ≡ false
+failed-chain m n o p q r f d e =
+    let (h, hp) = first-failed m n p d in
+    let (k, kq) = first-failed n o q e in
+    fails-first m o r (omega arith) (λ x. f (hp (omega arith)) (kq (omega arith)))
+
 -- ---- calls
 
 -- the rank of a call
@@ -80,6 +87,13 @@ along-a-chain a b c =
     first-chain (ranks a) (ranks b) (ranks c) (sooner a b) (sooner b c) (sooner a c)
     (first-chain (a .start) (b .start) (c .start) (lower a b) (lower b c) (lower a c)
     (λ x y. let h = ltb-true (a .identifier) (b .identifier) x in let k = ltb-true (b .identifier) (c .identifier) y in lt-ltb (a .identifier) (c .identifier) (omega (arith, h, k))))
+
+-- what is not better than a call that is not better is not better
+pub not-better-chain : (a b c : GroupCall) → isBetter a b ≡ false → isBetter b c ≡ false → isBetter a c ≡ false
+not-better-chain a b c =
+    failed-chain (ranks a) (ranks b) (ranks c) (sooner a b) (sooner b c) (sooner a c)
+    (failed-chain (a .start) (b .start) (c .start) (lower a b) (lower b c) (lower a c)
+    (λ x y. let h = ltb-false (a .identifier) (b .identifier) x in let k = ltb-false (b .identifier) (c .identifier) y in le-ltb (a .identifier) (c .identifier) (omega (arith, h, k))))
 
 -- of two calls one at most is better
 pub asymmetric : (a b : GroupCall) → isBetter a b ≡ true → isBetter b a ≡ false

@@ -1,0 +1,238 @@
+-- What one line does to a cab in a call. Assumes nothing.
+use mathlib.Core.Path.{_≡_, refl, sym, ap, _∙_, subst}
+use mathlib.Core.Logic.{_⊎_, inl, inr}
+use mathlib.Core.List.{List}
+use mathlib.Core.Bool.{Bool, true, false, cond, true≢false}
+use Prim.Native.Nat.{ℕ}
+use native.Mathlib.Omega.{arith}
+use lib.Dec.{eqb, ltb}
+use borrow.Author.Tests.{eq-eqb, eqb-true, eqb-false, le-ltb}
+use Rattle.frame.specs.Frame.{inRange}
+use Rattle.frame.specs.Line.{readLine, reading}
+use Rattle.frame.specs.declared.Media.{Media}
+use Rattle.frame.specs.declared.GroupCall.{GroupCall}
+use Rattle.frame.specs.declared.Message.{Message}
+use Rattle.frame.specs.declared.Message.the-variants.{SetupRequest, Ringing, Accept, Reject, Release, ReleaseAck, AcceptAck, Announcement, GroupAccept}
+use Rattle.frame.specs.declared.Read.{Read}
+use Rattle.frame.specs.declared.Read.the-variants.{Readable, Refused}
+use Rattle.frame.specs.declared.Reading.{Reading}
+use Rattle.frame.proofs.OnlyLine.{line-is-the-only-one}
+use Rattle.call.specs.Settings.{settingsGood}
+use Rattle.call.specs.declared.Settings.{Settings}
+use Rattle.call.specs.declared.Verdicts.{Verdicts}
+use Rattle.call.specs.declared.Event.{Event}
+use Rattle.call.proofs.Stepping.{Taken}
+use Rattle.group_order.specs.Order.{isBetter}
+use Rattle.group_order.proofs.Order.{never-itself, asymmetric}
+use Rattle.group_rows.specs.Formed.{wellFormed}
+use Rattle.group_rows.specs.Causes.{messageCause, sameIdentifier}
+use Rattle.group_rows.specs.declared.states.State.{State}
+use Rattle.group_rows.specs.declared.states.GroupRecord.{GroupRecord}
+use Rattle.group_rows.specs.declared.causes.Cause.{Cause}
+use Rattle.group_call.specs.Carried.{changedBy, laterChange}
+use Rattle.group_call.specs.Step.{refusedOf, discarded, stepOf, stepBuffer}
+use Rattle.group_call.specs.Hearing.{ongoing, inputOf, hears, HeardLine, Build, promised, answerTo, answerHearing, hear}
+use Rattle.group_call.specs.declared.Stepped.{Stepped}
+use Rattle.group_call.proofs.Steps.{keeps-well-formed}
+use Rattle.group_call.proofs.Unheeded.{other-discarded}
+use Rattle.group_call.proofs.Merging.{ongoing-is, merged, refreshed, better-joined, not-better-discarded, same-refreshed}
+use Rattle.demands.specs.SameCall.{Call, callOf, Announcing, InCall}
+
+-- a line announces a call of the own group
+abbrev pub Brings : Settings → List ℕ → Call → Type 0
+Brings s line c = Announcing line c × (c .0 .group ≡ s .«own_group»)
+
+-- what a line does to a cab in a call: to its record g, with the answer and the buffer that it gets
+pub record Heeded (s : Settings) (g : GroupRecord) (x : HeardLine) (answer : Stepped × List ℕ) : Type 0 where
+  -- the cab is still in a call
+  pub inCall : InCall s (answer .0 .next)
+  -- nothing is sent
+  pub silent : (answer .0 .length ≡ 0) × (answer .1 ≡ x .lent)
+  -- its call is the one that it had, or one that the line brings
+  pub known : (callOf (answer .0 .next) ≡ callOf g) ⊎ Brings s (x .line) (callOf (answer .0 .next))
+  -- the call that it had is not better
+  pub oldNotBetter : isBetter (g .call) (answer .0 .next .call) ≡ false
+  -- nor is one that the line brings
+  pub broughtNotBetter : (c : Call) → Brings s (x .line) c → isBetter (c .0) (answer .0 .next .call) ≡ false
+
+-- ---- what a line brings
+
+-- whether a message announces a call of this group
+ownMessage : ℕ → Message → Bool
+ownMessage own (SetupRequest p s) = false
+ownMessage own (Ringing p) = false
+ownMessage own (Accept p) = false
+ownMessage own (Reject p reason) = false
+ownMessage own (Release p) = false
+ownMessage own (ReleaseAck p) = false
+ownMessage own (AcceptAck p) = false
+ownMessage own (Announcement call confirm) = eqb (call .group) own
+ownMessage own (GroupAccept a) = false
+
+-- whether what was read does
+ownRead : ℕ → Read → Bool
+ownRead own (Readable m) = ownMessage own m
+ownRead own (Refused n) = false
+
+-- what was read, as the reader answers it
+abbrev readAs : Read → Media → Reading
+readAs r media = record { read = r; media = media }
+
+-- a line that brings a call was read so
+brings-own : (s : Settings) (line : List ℕ) (r : Read) (media : Media) → readLine line ≡ readAs r media → (c : Call) → Brings s line c → ownRead (s .«own_group») r ≡ true
+unfolding ownRead ownMessage
+brings-own s line r media e c m =
+    ap (λ (x : Reading). ownRead (s .«own_group») (x .read)) (sym e ∙ m .0 .1) ∙ eq-eqb (c .0 .group) (s .«own_group») (m .1)
+
+-- the call of an announcement, and this call where there is none
+callRead : Call → Read → Media → Call
+callRead d (Readable (Announcement call confirm)) media = (call, media)
+callRead d (Readable (SetupRequest p s)) media = d
+callRead d (Readable (Ringing p)) media = d
+callRead d (Readable (Accept p)) media = d
+callRead d (Readable (Reject p reason)) media = d
+callRead d (Readable (Release p)) media = d
+callRead d (Readable (ReleaseAck p)) media = d
+callRead d (Readable (AcceptAck p)) media = d
+callRead d (Readable (GroupAccept a)) media = d
+callRead d (Refused n) media = d
+
+-- a line announces one call and no other
+pub announced-one : (line : List ℕ) (c d : Call) → Announcing line c → Announcing line d → c ≡ d
+unfolding callRead
+announced-one line c d m n = ap (λ (x : Reading). callRead c (x .read) (x .media)) (sym (m .1) ∙ n .1)
+
+-- what brings no call is the other machine's, another group's, or an acceptance
+unbrought : (own : ℕ) (m : Message) → ownMessage own m ≡ false → messageCause own m ≡ Cause.Other
+unfolding ownMessage
+unbrought own (SetupRequest p s) e = refl
+unbrought own (Ringing p) e = refl
+unbrought own (Accept p) e = refl
+unbrought own (Reject p reason) e = refl
+unbrought own (Release p) e = refl
+unbrought own (ReleaseAck p) e = refl
+unbrought own (AcceptAck p) e = refl
+unbrought own (Announcement call confirm) e = ap (λ (b : Bool). cond b Cause.AnnouncementHeard Cause.Other) e
+unbrought own (GroupAccept a) e = refl
+
+-- ---- what it does
+
+module _ (s : Settings) (stored : GroupCall) (own : Media) (x : HeardLine) (good : settingsGood s ≡ true) (formed : wellFormed s (ongoing stored own) ≡ true) where
+  -- the record
+  abbrev g : GroupRecord
+  g = ongoing stored own
+
+  -- a line that leaves the record as it was, and brings nothing better
+  keeps : (answer : Stepped × List ℕ) → answer .0 .next ≡ g → answer .0 .length ≡ 0 → answer .1 ≡ x .lent
+      → ((c : Call) → Brings s (x .line) c → isBetter (c .0) stored ≡ false) → Heeded s g x answer
+  keeps answer e l b worse =
+      record {
+        inCall = subst (λ (h : GroupRecord). InCall s h) (sym e) (record { settings = good; formed = formed; ongoing = refl });
+        silent = (l, b);
+        known = inl (ap callOf e);
+        oldNotBetter = ap (λ (h : GroupRecord). isBetter stored (h .call)) e ∙ never-itself stored;
+        broughtNotBetter = λ c m. ap (λ (h : GroupRecord). isBetter (c .0) (h .call)) e ∙ worse c m;
+      }
+
+  -- a line that brings nothing
+  brings-none : (r : Read) (media : Media) → readLine (x .line) ≡ readAs r media → ownRead (s .«own_group») r ≡ false → (c : Call) → Brings s (x .line) c
+      → isBetter (c .0) stored ≡ false
+  brings-none r media e f c m = absurd (true≢false (sym (brings-own s (x .line) r media e c m) ∙ f))
+
+  -- a message that brings nothing
+  unheeded : (m : Message) (media : Media) → readLine (x .line) ≡ reading m media → ownMessage (s .«own_group») m ≡ false
+      → Heeded s g x (promised s g (inputOf (Event.Message m) media (x .verdicts)) (x .lent))
+  unfolding ownRead
+  unheeded m media e f =
+      let ranged = line-is-the-only-one (x .line) m media e .1 .ranged in
+      let d = other-discarded s g (inputOf (Event.Message m) media (x .verdicts)) (x .lent)
+      (record { settings = good; formed = formed; message = ranged; arguments = refl }) (unbrought (s .«own_group») m f) in
+      keeps _ (ap (λ (a : Stepped). a .next) (d .0)) (ap (λ (a : Stepped). a .length) (d .0)) (d .1) (brings-none (Readable m) media e f)
+
+  -- a call that the line brings is joined
+  joins : (call : GroupCall) (media : Media) (answer : Stepped × List ℕ) → answer .0 ≡ merged call media → answer .1 ≡ x .lent
+      → wellFormed s (answer .0 .next) ≡ true → Brings s (x .line) (call, media) → isBetter call stored ≡ true → Heeded s g x answer
+  joins call media answer e b w m better =
+      let n : answer .0 .next ≡ ongoing call media = ap (λ (a : Stepped). a .next) e in
+      record {
+        inCall = record { settings = good; formed = w; ongoing = ap (λ (h : GroupRecord). h .state) n };
+        silent = (ap (λ (a : Stepped). a .length) e, b);
+        known = inr (subst (λ (c : Call). Brings s (x .line) c) (sym (ap callOf n)) m);
+        oldNotBetter = ap (λ (h : GroupRecord). isBetter stored (h .call)) n ∙ asymmetric call stored better;
+        broughtNotBetter = λ c k.
+        (λ j. isBetter (announced-one (x .line) c (call, media) (k .0) (m .0) j .0) (n j .call)) ∙ never-itself call;
+      }
+
+  -- of the own call heard again, where it is alike, nothing is taken over
+  same-change : (call : GroupCall) → call ≡ stored → laterChange stored call ≡ stored
+  same-change call e =
+      ap (λ (c : GroupCall). laterChange stored c) e
+      ∙ ap (λ (b : Bool). cond b (changedBy stored stored) stored) (le-ltb (stored .«last_change») (stored .«last_change») (omega arith))
+
+  -- same identifier, same call: of what the line brings and what is stored
+  abbrev AlikeBrought : Type 0
+  AlikeBrought = (c : Call) → Brings s (x .line) c → c .0 .identifier ≡ stored .identifier → c ≡ (stored, own)
+
+  -- an announcement of the own group
+  heeded-own : (call : GroupCall) (confirm : ℕ) (media : Media) → readLine (x .line) ≡ reading (Announcement call confirm) media
+      → eqb (call .group) (s .«own_group») ≡ true → AlikeBrought
+      → Heeded s g x (promised s g (hears call confirm media (x .verdicts)) (x .lent))
+  heeded-own call confirm media e o alike = go (sameIdentifier call stored) (isBetter call stored) refl refl
+    where
+      ranged : inRange (Announcement call confirm) media ≡ true
+      ranged = line-is-the-only-one (x .line) (Announcement call confirm) media e .1 .ranged
+
+      brought : Brings s (x .line) (call, media)
+      brought = ((confirm, e), eqb-true (call .group) (s .«own_group») o)
+
+      only : (c : Call) → Brings s (x .line) c → c ≡ (call, media)
+      only c m = announced-one (x .line) c (call, media) (m .0) (brought .0)
+
+      go : (same better : Bool) → sameIdentifier call stored ≡ same → isBetter call stored ≡ better
+          → Heeded s g x (promised s g (hears call confirm media (x .verdicts)) (x .lent))
+      go true better p q =
+          let d = same-refreshed s stored own call confirm media (x .verdicts) (x .lent) good formed ranged o p in
+          let is = alike (call, media) brought (eqb-true (call .identifier) (stored .identifier) p) in
+          keeps _ (ap (λ (a : Stepped). a .next) (d .0) ∙ ap (λ (c : GroupCall). ongoing c own) (same-change call (ap (λ (c : Call). c .0) is)))
+          (ap (λ (a : Stepped). a .length) (d .0)) (d .1)
+          (λ c m. ap (λ (k : Call). isBetter (k .0) stored) (only c m ∙ is) ∙ never-itself stored)
+      go false true p q =
+          let d = better-joined s stored own call confirm media (x .verdicts) (x .lent) good formed ranged o p q in
+          joins call media _ (d .0) (d .1) (keeps-well-formed s g (hears call confirm media (x .verdicts)) (x .lent) good formed) brought q
+      go false false p q =
+          let d = not-better-discarded s stored own call confirm media (x .verdicts) (x .lent) good formed ranged o p q in
+          keeps _ (ap (λ (a : Stepped). a .next) (d .0)) (ap (λ (a : Stepped). a .length) (d .0)) (d .1)
+          (λ c m. ap (λ (k : Call). isBetter (k .0) stored) (only c m) ∙ q)
+
+  -- whatever message was read
+  heeded-message : AlikeBrought → (m : Message) (media : Media) → readLine (x .line) ≡ reading m media
+      → Heeded s g x (promised s g (inputOf (Event.Message m) media (x .verdicts)) (x .lent))
+  unfolding ownMessage
+  heeded-message alike (SetupRequest p t) media e = unheeded (SetupRequest p t) media e refl
+  heeded-message alike (Ringing p) media e = unheeded (Ringing p) media e refl
+  heeded-message alike (Accept p) media e = unheeded (Accept p) media e refl
+  heeded-message alike (Reject p reason) media e = unheeded (Reject p reason) media e refl
+  heeded-message alike (Release p) media e = unheeded (Release p) media e refl
+  heeded-message alike (ReleaseAck p) media e = unheeded (ReleaseAck p) media e refl
+  heeded-message alike (AcceptAck p) media e = unheeded (AcceptAck p) media e refl
+  heeded-message alike (GroupAccept a) media e = unheeded (GroupAccept a) media e refl
+  heeded-message alike (Announcement call confirm) media e = go (eqb (call .group) (s .«own_group»)) refl
+    where
+      go : (b : Bool) → eqb (call .group) (s .«own_group») ≡ b → Heeded s g x (promised s g (hears call confirm media (x .verdicts)) (x .lent))
+      go true o = heeded-own call confirm media e o alike
+      go false o = unheeded (Announcement call confirm) media e o
+
+  -- whatever was read
+  heeded-read : AlikeBrought → (r : Read) (media : Media) → readLine (x .line) ≡ readAs r media
+      → Heeded s g x (answerTo promised s g r media (x .verdicts) (x .lent))
+  unfolding ownRead
+  heeded-read alike (Refused n) media e = keeps _ refl refl refl (brings-none (Refused n) media e refl)
+  heeded-read alike (Readable m) media e = heeded-message alike m media e
+
+-- whatever line is heard, where a call that it brings is alike the stored one if it has its identifier
+pub heeded : (s : Settings) (g : GroupRecord) (x : HeardLine) → InCall s g
+    → ((c : Call) → Brings s (x .line) c → c .0 .identifier ≡ g .call .identifier → c ≡ callOf g) → Heeded s g x (answerHearing promised s g x)
+heeded s g x is alike =
+    let e = ongoing-is s g (is .formed) (is .ongoing) in
+    subst (λ (h : GroupRecord). Heeded s h x (answerHearing promised s h x)) (sym e)
+    (heeded-read s (g .call) (g .media) x (is .settings) (rw e at (is .formed)) alike (readLine (x .line) .read) (readLine (x .line) .media) refl)

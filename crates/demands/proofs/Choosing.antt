@@ -13,7 +13,7 @@ use Rattle.frame.proofs.LineNumbers.{line-number-at-most}
 use Rattle.chooser.specs.Choice.{linesChoosable, numberBetween, choiceNumber}
 use Rattle.chooser.specs.NoChoice.{NoChoice}
 use Rattle.chooser.proofs.Lines.{no-choice}
-use Rattle.demands.specs.ExactlyWhen.{ExactlyWhen, LineRefused, choiceTable}
+use Rattle.demands.specs.ExactlyWhen.{GivenExactlyWhen, LineRefused, choiceTable}
 use Rattle.demands.proofs.Reflects.{Reflects, eqb-reflects, and-reflects, or-reflects}
 use Rattle.demands.proofs.Tables.{Row, Right, table-exactly}
 
@@ -52,10 +52,10 @@ choice-reflects : (first second : List ℕ) → Reflects (not (linesChoosable fi
 choice-reflects first second = Iff·trans (not-true (linesChoosable first second), λ e. ap not e) (no-choice first second)
 
 -- a number of the first line, else one of the second, else 10
-pub choose-number-exactly-when : (first second : List ℕ) → ExactlyWhen (choiceNumber first second) (Unit {0}) (choiceTable first second)
+pub choose-number-exactly-when : (first second : List ℕ) → GivenExactlyWhen (choiceNumber first second) (choiceTable first second)
 unfolding choiceNumber
 choose-number-exactly-when first second =
-    subst (λ (n : ℕ). ExactlyWhen n (Unit {0}) (choiceTable first second))
+    subst (λ (n : ℕ). GivenExactlyWhen n (choiceTable first second))
     (sym (number-by (lineNumber first) (lineNumber second) (linesChoosable first second) (line-number-at-most first) (line-number-at-most second)))
     (table-exactly rows refl right)
   where

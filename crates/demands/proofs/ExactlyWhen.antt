@@ -33,7 +33,7 @@ use Rattle.private_rows.proofs.Meets.{same-row}
 use Rattle.private_call.specs.Step.{identifierTaken}
 use Rattle.private_call.proofs.Steps.{number-told}
 use Rattle.private_call.proofs.NumberTable.{step-number}
-use Rattle.demands.specs.ExactlyWhen.{ExactlyWhen, IsDigit, Unended, Undigital, Unkind, Misfit, Unranged, lineTable, writeTable, answerTable}
+use Rattle.demands.specs.ExactlyWhen.{GivenExactlyWhen, IsDigit, Unended, Undigital, Unkind, Misfit, Unranged, lineTable, writeTable, answerTable}
 use Rattle.demands.specs.ExactlyWhen.{SettingOut, Unformed, FieldOut, ArgumentOut, StepRoomless, stepTable, StepExactlyWhen}
 use Rattle.demands.specs.Totals.{totals}
 use Rattle.demands.specs.Machines.{Machine, lineToSend, IdentifierStored, privateMachine}
@@ -139,7 +139,7 @@ taken-reflects s p i =
 -- ---- the theorems
 
 -- the reader: 1 to 5
-pub line-exactly-when : (l : List ℕ) → ExactlyWhen (lineNumber l) (Unit {0}) (lineTable l)
+pub line-exactly-when : (l : List ℕ) → GivenExactlyWhen (lineNumber l) (lineTable l)
 unfolding refusalOf
 line-exactly-when l = table-exactly rows refl right
   where
@@ -153,7 +153,7 @@ line-exactly-when l = table-exactly rows refl right
         (λ b. unended-reflects l, (λ b. undigital-reflects l, (λ b. unkind-reflects l, (λ b. misfit-reflects l (b .1), (λ b. false-reflects _, tt)))))
 
 -- the writer: 5, then 6
-pub write-exactly-when : (m : Message) (media : Media) (out : List ℕ) → ExactlyWhen (writeNumber m media out) (Unit {0}) (writeTable m media out)
+pub write-exactly-when : (m : Message) (media : Media) (out : List ℕ) → GivenExactlyWhen (writeNumber m media out) (writeTable m media out)
 unfolding writeNumber
 write-exactly-when m media out = table-exactly rows refl right
   where
@@ -166,7 +166,7 @@ write-exactly-when m media out = table-exactly rows refl right
     right = (λ b. false-reflects (inRange m media), (λ b. ltb-reflects (length out) (length (lineOf m media)), tt))
 
 -- the answer to a log: 6
-pub answer-exactly-when : (log out : List ℕ) → ExactlyWhen (answerNumber log out) (Unit {0}) (answerTable log out)
+pub answer-exactly-when : (log out : List ℕ) → GivenExactlyWhen (answerNumber log out) (answerTable log out)
 unfolding answerNumber
 answer-exactly-when log out = table-exactly rows refl right
   where
@@ -190,7 +190,7 @@ pub machine-exactly-when : (M : Machine) (refused : Settings → M .Stored → I
     → ((s : Settings) (p : M .Stored) (i : Input) (out : List ℕ) → M .step s p i out .number ≡ firstGiven (machineTests M s p i out (refused s p i)))
     → StepExactlyWhen M
 machine-exactly-when M refused stands told s p i out =
-    subst (λ (n : ℕ). ExactlyWhen n (Unit {0}) (stepTable M s p i out)) (sym (told s p i out)) (table-exactly rows refl right)
+    subst (λ (n : ℕ). GivenExactlyWhen n (stepTable M s p i out)) (sym (told s p i out)) (table-exactly rows refl right)
   where
     rows : List Row
     rows =

@@ -23,12 +23,16 @@ use Rattle.group_rows.proofs.Meets.{same-row}
 use Rattle.group_call.proofs.Keeping.{has-set, carried-sends-good}
 use Rattle.group_call.proofs.Steps.{number-told, step-number, step-done, step-refused, row-0-keeps, keeps-well-formed, timers-agree}
 use Rattle.group_call.proofs.GeneralRules.{step-change-stops, step-spares-ran-out}
-use Rattle.demands.specs.Machines.{KeepsWellFormed, SendsGood, TimersAgree, ChangeStops, SparesRanOut, ChangeNotLater, groupAnswer, groupMachine}
+use Rattle.demands.specs.Machines.{CarriesOut, KeepsWellFormed, SendsGood, TimersAgree, ChangeStops, SparesRanOut, ChangeNotLater, groupAnswer, groupMachine}
 use Rattle.demands.specs.ExactlyWhen.{StepExactlyWhen}
 use Rattle.demands.specs.NothingChanges.{StepNothingChanges}
 use Rattle.demands.proofs.Reflects.{Reflects, and-reflects}
 use Rattle.demands.proofs.ExactlyWhen.{machine-exactly-when}
 use Rattle.demands.proofs.NothingChanges.{machine-nothing-changes}
+
+-- it carries out the row that is met
+pub group-carries-out : CarriesOut groupMachine
+group-carries-out s g i out e = let d = step-done s g i out (sym (number-told s g i out) ∙ e) in (ap groupAnswer (d .0), d .1)
 
 -- its records stay well formed
 pub group-keeps-well-formed : KeepsWellFormed groupMachine

@@ -14,3 +14,4 @@ pub mod Choosing
 pub mod HearingOne
 pub mod SameCall
 pub mod TwoCabs
+pub mod Promised

@@ -10,9 +10,15 @@ use Rattle.private_rows.proofs.WellFormed.{has-set}
 use Rattle.private_effects.specs.Carried.{runningAfter}
 use Rattle.private_call.specs.Step.{doneOf}
 use Rattle.private_call.proofs.Keeping.{carried-sends-good}
-use Rattle.private_call.proofs.Steps.{number-told, keeps-well-formed, timers-agree}
+use Rattle.private_call.proofs.Steps.{number-told, step-done, keeps-well-formed, timers-agree}
+use Rattle.private_call.proofs.MarkedSteps.{line-done}
 use Rattle.private_call.proofs.GeneralRules.{step-change-stops, step-spares-ran-out}
-use Rattle.demands.specs.Machines.{KeepsWellFormed, SendsGood, TimersAgree, ChangeStops, SparesRanOut, privateMachine}
+use Rattle.demands.specs.Machines.{CarriesOut, KeepsWellFormed, SendsGood, TimersAgree, ChangeStops, SparesRanOut, privateAnswer, privateMachine}
+
+-- it carries out the row that is met
+pub private-carries-out : CarriesOut privateMachine
+private-carries-out s p i out e =
+    let z = sym (number-told s p i out) ∙ e in (ap privateAnswer (step-done s p i out z), line-done s p i out z .1)
 
 -- its records stay well formed
 pub private-keeps-well-formed : KeepsWellFormed privateMachine

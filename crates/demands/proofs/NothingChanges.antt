@@ -5,10 +5,12 @@ use Prim.Native.Nat.{ℕ}
 use borrow.Author.Tests.{eq-eqb, ne-eqb}
 use Rattle.frame.specs.Layout.{lineOf}
 use Rattle.frame.specs.Lent.{told, lentAfter}
+use Rattle.frame.specs.Line.{lineNumber, readLine}
 use Rattle.frame.specs.Writing.{writeNumber, writtenOf, bufferOf}
 use Rattle.frame.specs.declared.Media.{Media}
 use Rattle.frame.specs.declared.Message.{Message}
 use Rattle.log.specs.Answer.{answerOf, answerNumber, answerTold, answerBuffer}
+use Rattle.chooser.proofs.Chosen.{chosen-refused}
 use Rattle.call.specs.Sending.{lineSent, sendNumber, sendTold, sendBuffer}
 use Rattle.call.specs.declared.Settings.{Settings}
 use Rattle.call.specs.declared.Input.{Input}
@@ -18,7 +20,7 @@ use Rattle.private_call.specs.Step.{stepNumber, stepOf, stepBuffer}
 use Rattle.private_call.proofs.Steps.{number-told, row-0-keeps}
 use Rattle.private_call.proofs.MarkedSteps.{line-done}
 use Rattle.demands.specs.Machines.{Machine, lineToSend, IsRefused, privateAnswer, privateMachine}
-use Rattle.demands.specs.NothingChanges.{Done, NothingChanges, StepKept, StepNothingChanges}
+use Rattle.demands.specs.NothingChanges.{Done, NothingChanges, ReadNothingChanges, ChooseNothingChanges, StepKept, StepNothingChanges}
 
 -- ---- a text written into a lent buffer
 
@@ -40,6 +42,18 @@ answer-nothing-changes log out = lent-nothing-changes (answerNumber log out) (an
 pub write-sent-nothing-changes : (sent : Send) (media : Media) (out : List ℕ)
     → NothingChanges (lineSent sent media) (sendTold sent media out) out (sendBuffer sent media out)
 write-sent-nothing-changes sent media out = lent-nothing-changes (sendNumber sent media out) (lineSent sent media) out
+
+-- ---- what is lent to be read
+
+-- the reader
+pub read-nothing-changes : ReadNothingChanges
+unfolding readLine
+read-nothing-changes l f = rw (ne-eqb (lineNumber l) 0 f) refl
+
+-- the chooser
+pub choose-nothing-changes : ChooseNothingChanges
+choose-nothing-changes first second f =
+    let neither = chosen-refused (first .now) (second .now) .1 f in rw (neither) refl
 
 -- ---- a step
 

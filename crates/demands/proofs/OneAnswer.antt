@@ -1,6 +1,5 @@
--- A public contract leaves no choice: two results that it allows are one, and so is what was lent, at exit. `Learnt` is the contract's own reading:
--- what a caller learns, for the arguments, of the result and of the parameters at exit. Assumes nothing.
-use mathlib.Core.Path.{_≡_, sym, _∙_}
+-- No public contract leaves a choice: nothing is asked, two results that it allows are one, and so is what was lent, at exit. Assumes nothing.
+use mathlib.Core.Path.{_≡_, refl, sym, _∙_}
 use contract.Lifetimes as Lifetimes
 use Rattle.frame.proofs.check_line.Reads as check-line
 use Rattle.frame.proofs.read_line.Reads as read-line
@@ -28,107 +27,114 @@ use Rattle.group_rows.proofs.well_formed.Reads as group-well-formed
 use Rattle.group_rows.proofs.row_of.Reads as group-row-of
 use Rattle.group_rows.proofs.states.cleared_record.Reads as group-cleared-record
 use Rattle.group_call.proofs.step.Reads as group-step
+use Rattle.demands.specs.OneAnswer.{OneAnswer}
 
 -- what equals the same thing is equal
 same : {A : Type 0} {x a b : A} → a ≡ x → b ≡ x → a ≡ b
 same p q = p ∙ sym q
 
+module _ {A R T S : Type 0} {Asked : A → Type 0} {Learnt : A → R → T → Type 0} {told : R → S} where
+  -- a function that is lent nothing to write in
+  result-alone : ((a : A) → Asked a) → ((a : A) (r q : R) (s t : T) → Learnt a r s → Learnt a q t → told r ≡ told q)
+      → OneAnswer Asked Learnt told (λ t. tt {0})
+  result-alone asks one = record { asksNothing = asks; oneResult = one; oneExit = λ a r q s t x y. refl }
+
 -- the number of a line
-pub check-line-one : (κs : Lifetimes.Lfts 1) (a : _) (r q : _) (s t : _) → check-line.Learnt κs a r s → check-line.Learnt κs a q t → r ≡ q
-check-line-one κs a r q s t x y = same x y
+pub check-line-one : (κs : Lifetimes.Lfts 1) → OneAnswer (check-line.Asked κs) (check-line.Learnt κs) (λ r. r) (λ t. tt {0})
+check-line-one κs = result-alone (λ a. tt) (λ a r q s t x y. same x y)
 
 -- the frame of a line
-pub read-line-one : (κs : Lifetimes.Lfts 1) (a : _) (r q : _) (s t : _) → read-line.Learnt κs a r s → read-line.Learnt κs a q t → r ≡ q
-read-line-one κs a r q s t x y = same x y
+pub read-line-one : (κs : Lifetimes.Lfts 1) → OneAnswer (read-line.Asked κs) (read-line.Learnt κs) (λ r. r) (λ t. tt {0})
+read-line-one κs = result-alone (λ a. tt) (λ a r q s t x y. same x y)
 
 -- the number and length of a written line, and the buffer
-pub write-line-one : (κs : Lifetimes.Lfts 1) (a : _) (r q : _) (s t : _) → write-line.Learnt κs a r s → write-line.Learnt κs a q t → (r ≡ q) × (s .1 .1 .0 .now ≡ t .1 .1 .0 .now)
-write-line-one κs a r q s t x y = (same (x .0) (y .0), same (x .1 .0) (y .1 .0))
+pub write-line-one : (κs : Lifetimes.Lfts 1) → OneAnswer (write-line.Asked κs) (write-line.Learnt κs) (λ r. r) (λ t. t .1 .1 .0 .now)
+write-line-one κs = record { asksNothing = λ a. tt; oneResult = λ a r q s t x y. same (x .0) (y .0); oneExit = λ a r q s t x y. same (x .1 .0) (y .1 .0) }
 
 -- whether a frame is in range
-pub in-range-one : (κs : Lifetimes.Lfts 0) (a : _) (r q : _) (s t : _) → in-range.Learnt κs a r s → in-range.Learnt κs a q t → r ≡ q
-in-range-one κs a r q s t x y = same x y
+pub in-range-one : (κs : Lifetimes.Lfts 0) → OneAnswer (in-range.Asked κs) (in-range.Learnt κs) (λ r. r) (λ t. tt {0})
+in-range-one κs = result-alone (λ a. tt) (λ a r q s t x y. same x y)
 
 -- whether there is no media
-pub media-none-one : (κs : Lifetimes.Lfts 0) (a : _) (r q : _) (s t : _) → media-none.Learnt κs a r s → media-none.Learnt κs a q t → r ≡ q
-media-none-one κs a r q s t x y = same x y
+pub media-none-one : (κs : Lifetimes.Lfts 0) → OneAnswer (media-none.Asked κs) (media-none.Learnt κs) (λ r. r) (λ t. tt {0})
+media-none-one κs = result-alone (λ a. tt) (λ a r q s t x y. same x y)
 
 -- the length of a log's first line
-pub first-line-length-one : (κs : Lifetimes.Lfts 1) (a : _) (r q : _) (s t : _) → first-line-length.Learnt κs a r s → first-line-length.Learnt κs a q t → r ≡ q
-first-line-length-one κs a r q s t x y = same (x .0) (y .0)
+pub first-line-length-one : (κs : Lifetimes.Lfts 1) → OneAnswer (first-line-length.Asked κs) (first-line-length.Learnt κs) (λ r. r) (λ t. tt {0})
+first-line-length-one κs = result-alone (λ a. tt) (λ a r q s t x y. same (x .0) (y .0))
 
 -- the number and length of a log's answer, and the buffer
-pub answer-log-one : (κs : Lifetimes.Lfts 2) (a : _) (r q : _) (s t : _) → answer-log.Learnt κs a r s → answer-log.Learnt κs a q t → (r ≡ q) × (s .1 .0 .now ≡ t .1 .0 .now)
-answer-log-one κs a r q s t x y = (same (x .0) (y .0), same (x .1 .0) (y .1 .0))
+pub answer-log-one : (κs : Lifetimes.Lfts 2) → OneAnswer (answer-log.Asked κs) (answer-log.Learnt κs) (λ r. r) (λ t. t .1 .0 .now)
+answer-log-one κs = record { asksNothing = λ a. tt; oneResult = λ a r q s t x y. same (x .0) (y .0); oneExit = λ a r q s t x y. same (x .1 .0) (y .1 .0) }
 
 -- the number that a step gives before it looks for a row
-pub number-before-row-one : (κs : Lifetimes.Lfts 0) (a : _) (r q : _) (s t : _) → number-before-row.Learnt κs a r s → number-before-row.Learnt κs a q t → r ≡ q
-number-before-row-one κs a r q s t x y = same x y
+pub number-before-row-one : (κs : Lifetimes.Lfts 0) → OneAnswer (number-before-row.Asked κs) (number-before-row.Learnt κs) (λ r. r) (λ t. tt {0})
+number-before-row-one κs = result-alone (λ a. tt) (λ a r q s t x y. same x y)
 
 -- the setup request that an event brings
-pub request-of-one : (κs : Lifetimes.Lfts 0) (a : _) (r q : _) (s t : _) → request-of.Learnt κs a r s → request-of.Learnt κs a q t → r ≡ q
-request-of-one κs a r q s t x y = same x y
+pub request-of-one : (κs : Lifetimes.Lfts 0) → OneAnswer (request-of.Asked κs) (request-of.Learnt κs) (λ r. r) (λ t. tt {0})
+request-of-one κs = result-alone (λ a. tt) (λ a r q s t x y. same x y)
 
 -- the setup request of a private call
-pub private-request-one : (κs : Lifetimes.Lfts 0) (a : _) (r q : _) (s t : _) → private-request.Learnt κs a r s → private-request.Learnt κs a q t → r ≡ q
-private-request-one κs a r q s t x y = same x y
+pub private-request-one : (κs : Lifetimes.Lfts 0) → OneAnswer (private-request.Asked κs) (private-request.Learnt κs) (λ r. r) (λ t. tt {0})
+private-request-one κs = result-alone (λ a. tt) (λ a r q s t x y. same x y)
 
 -- the number and length of what a step sends, and the buffer
-pub write-sent-one : (κs : Lifetimes.Lfts 1) (a : _) (r q : _) (s t : _) → write-sent.Learnt κs a r s → write-sent.Learnt κs a q t → (r ≡ q) × (s .1 .1 .0 .now ≡ t .1 .1 .0 .now)
-write-sent-one κs a r q s t x y = (same (x .0) (y .0), same (x .1) (y .1))
+pub write-sent-one : (κs : Lifetimes.Lfts 1) → OneAnswer (write-sent.Asked κs) (write-sent.Learnt κs) (λ r. r) (λ t. t .1 .1 .0 .now)
+write-sent-one κs = record { asksNothing = λ a. tt; oneResult = λ a r q s t x y. same (x .0) (y .0); oneExit = λ a r q s t x y. same (x .1) (y .1) }
 
 -- whether a record is well formed
-pub well-formed-one : (κs : Lifetimes.Lfts 0) (a : _) (r q : _) (s t : _) → well-formed.Learnt κs a r s → well-formed.Learnt κs a q t → r ≡ q
-well-formed-one κs a r q s t x y = same x y
+pub well-formed-one : (κs : Lifetimes.Lfts 0) → OneAnswer (well-formed.Asked κs) (well-formed.Learnt κs) (λ r. r) (λ t. tt {0})
+well-formed-one κs = result-alone (λ a. tt) (λ a r q s t x y. same x y)
 
 -- the row that an event meets
-pub row-of-one : (κs : Lifetimes.Lfts 0) (a : _) (r q : _) (s t : _) → row-of.Learnt κs a r s → row-of.Learnt κs a q t → r ≡ q
-row-of-one κs a r q s t x y = same x y
+pub row-of-one : (κs : Lifetimes.Lfts 0) → OneAnswer (row-of.Asked κs) (row-of.Learnt κs) (λ r. r) (λ t. tt {0})
+row-of-one κs = result-alone (λ a. tt) (λ a r q s t x y. same x y)
 
 -- the cleared record
-pub cleared-record-one : (κs : Lifetimes.Lfts 0) (a : _) (r q : _) (s t : _) → cleared-record.Learnt κs a r s → cleared-record.Learnt κs a q t → r ≡ q
-cleared-record-one κs a r q s t x y = same x y
+pub cleared-record-one : (κs : Lifetimes.Lfts 0) → OneAnswer (cleared-record.Asked κs) (cleared-record.Learnt κs) (λ r. r) (λ t. tt {0})
+cleared-record-one κs = result-alone (λ a. tt) (λ a r q s t x y. same x y)
 
 -- what carrying out a row gives
-pub carry-out-one : (κs : Lifetimes.Lfts 0) (a : _) (r q : _) (s t : _) → carry-out.Learnt κs a r s → carry-out.Learnt κs a q t → r ≡ q
-carry-out-one κs a r q s t x y = same x y
+pub carry-out-one : (κs : Lifetimes.Lfts 0) → OneAnswer (carry-out.Asked κs) (carry-out.Learnt κs) (λ r. r) (λ t. tt {0})
+carry-out-one κs = result-alone (λ a. tt) (λ a r q s t x y. same x y)
 
 -- the answer of a step, and the buffer
-pub step-one : (κs : Lifetimes.Lfts 1) (a : _) (r q : _) (s t : _) → step.Learnt κs a r s → step.Learnt κs a q t → (r ≡ q) × (s .1 .1 .1 .0 .now ≡ t .1 .1 .1 .0 .now)
-step-one κs a r q s t x y = (same (x .0) (y .0), same (x .1) (y .1))
+pub step-one : (κs : Lifetimes.Lfts 1) → OneAnswer (step.Asked κs) (step.Learnt κs) (λ r. r) (λ t. t .1 .1 .1 .0 .now)
+step-one κs = record { asksNothing = λ a. tt; oneResult = λ a r q s t x y. same (x .0) (y .0); oneExit = λ a r q s t x y. same (x .1) (y .1) }
 
 -- the announcement that an event brings
-pub announced-of-one : (κs : Lifetimes.Lfts 0) (a : _) (r q : _) (s t : _) → announced-of.Learnt κs a r s → announced-of.Learnt κs a q t → r ≡ q
-announced-of-one κs a r q s t x y = same x y
+pub announced-of-one : (κs : Lifetimes.Lfts 0) → OneAnswer (announced-of.Asked κs) (announced-of.Learnt κs) (λ r. r) (λ t. tt {0})
+announced-of-one κs = result-alone (λ a. tt) (λ a r q s t x y. same x y)
 
 -- the rank of a type
-pub rank-one : (κs : Lifetimes.Lfts 0) (a : _) (r q : _) (s t : _) → rank.Learnt κs a r s → rank.Learnt κs a q t → r ≡ q
-rank-one κs a r q s t x y = same x y
+pub rank-one : (κs : Lifetimes.Lfts 0) → OneAnswer (rank.Asked κs) (rank.Learnt κs) (λ r. r) (λ t. tt {0})
+rank-one κs = result-alone (λ a. tt) (λ a r q s t x y. same x y)
 
 -- whether a call is better
-pub better-one : (κs : Lifetimes.Lfts 0) (a : _) (r q : _) (s t : _) → better.Learnt κs a r s → better.Learnt κs a q t → r ≡ q
-better-one κs a r q s t x y = same x y
+pub better-one : (κs : Lifetimes.Lfts 0) → OneAnswer (better.Asked κs) (better.Learnt κs) (λ r. r) (λ t. tt {0})
+better-one κs = result-alone (λ a. tt) (λ a r q s t x y. same x y)
 
 -- the number of the chooser's question
-pub choose-number-one : (κs : Lifetimes.Lfts 2) (a : _) (r q : _) (s t : _) → choose-number.Learnt κs a r s → choose-number.Learnt κs a q t → r ≡ q
-choose-number-one κs a r q s t x y = same x y
+pub choose-number-one : (κs : Lifetimes.Lfts 2) → OneAnswer (choose-number.Asked κs) (choose-number.Learnt κs) (λ r. r) (λ t. tt {0})
+choose-number-one κs = result-alone (λ a. tt) (λ a r q s t x y. same x y)
 
 -- the place and the bytes of the line chosen
-pub choose-one : (κs : Lifetimes.Lfts 1) (a : _) (r q : _) (s t : _) → choose.Learnt κs a r s → choose.Learnt κs a q t → place r ≡ place q
-choose-one κs a r q s t x y = same x y
+pub choose-one : (κs : Lifetimes.Lfts 1) → OneAnswer (choose.Asked κs) (choose.Learnt κs) place (λ t. tt {0})
+choose-one κs = result-alone (λ a. tt) (λ a r q s t x y. same x y)
 
 -- whether a group record is well formed
-pub group-well-formed-one : (κs : Lifetimes.Lfts 0) (a : _) (r q : _) (s t : _) → group-well-formed.Learnt κs a r s → group-well-formed.Learnt κs a q t → r ≡ q
-group-well-formed-one κs a r q s t x y = same x y
+pub group-well-formed-one : (κs : Lifetimes.Lfts 0) → OneAnswer (group-well-formed.Asked κs) (group-well-formed.Learnt κs) (λ r. r) (λ t. tt {0})
+group-well-formed-one κs = result-alone (λ a. tt) (λ a r q s t x y. same x y)
 
 -- the group row that an event meets
-pub group-row-of-one : (κs : Lifetimes.Lfts 0) (a : _) (r q : _) (s t : _) → group-row-of.Learnt κs a r s → group-row-of.Learnt κs a q t → r ≡ q
-group-row-of-one κs a r q s t x y = same x y
+pub group-row-of-one : (κs : Lifetimes.Lfts 0) → OneAnswer (group-row-of.Asked κs) (group-row-of.Learnt κs) (λ r. r) (λ t. tt {0})
+group-row-of-one κs = result-alone (λ a. tt) (λ a r q s t x y. same x y)
 
 -- the cleared group record
-pub group-cleared-record-one : (κs : Lifetimes.Lfts 0) (a : _) (r q : _) (s t : _) → group-cleared-record.Learnt κs a r s → group-cleared-record.Learnt κs a q t → r ≡ q
-group-cleared-record-one κs a r q s t x y = same x y
+pub group-cleared-record-one : (κs : Lifetimes.Lfts 0) → OneAnswer (group-cleared-record.Asked κs) (group-cleared-record.Learnt κs) (λ r. r) (λ t. tt {0})
+group-cleared-record-one κs = result-alone (λ a. tt) (λ a r q s t x y. same x y)
 
 -- the answer of a step of the group call machine, and the buffer
-pub group-step-one : (κs : Lifetimes.Lfts 1) (a : _) (r q : _) (s t : _) → group-step.Learnt κs a r s → group-step.Learnt κs a q t → (r ≡ q) × (s .1 .1 .1 .0 .now ≡ t .1 .1 .1 .0 .now)
-group-step-one κs a r q s t x y = (same (x .0) (y .0), same (x .1) (y .1))
+pub group-step-one : (κs : Lifetimes.Lfts 1) → OneAnswer (group-step.Asked κs) (group-step.Learnt κs) (λ r. r) (λ t. t .1 .1 .1 .0 .now)
+group-step-one κs = record { asksNothing = λ a. tt; oneResult = λ a r q s t x y. same (x .0) (y .0); oneExit = λ a r q s t x y. same (x .1) (y .1) }

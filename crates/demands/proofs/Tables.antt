@@ -8,7 +8,7 @@ use lib.Dec.{eqb}
 use borrow.Author.Tests.{eq-eqb}
 use Rattle.frame.specs.Number.{firstGiven}
 use Rattle.frame.proofs.Laws.{and-split}
-use Rattle.demands.specs.ExactlyWhen.{ExactlyWhen}
+use Rattle.demands.specs.ExactlyWhen.{ExactlyWhen, Among, GivenExactlyWhen}
 use Rattle.demands.proofs.Reflects.{Reflects}
 
 -- a row: the number, the test, the condition
@@ -40,18 +40,13 @@ abbrev pub apart : List Row → Bool
 apart [] = true
 apart (r ∷ rows) = fresh (r .0) rows && apart rows
 
--- a number of the table, or 0
-Among : ℕ → List Row → Type 0
-Among n [] = n ≡ 0
-Among n (r ∷ rows) = (n ≡ r .0) ⊎ Among n rows
-
 -- a table gives one of its numbers, or 0
-given-among : (rows : List Row) → Among (firstGiven (tests rows)) rows
+given-among : (rows : List Row) → Among (firstGiven (tests rows)) (conditions rows)
 unfolding Among
 given-among [] = refl
 given-among (r ∷ rows) = go (r .1) (given-among rows)
   where
-    go : (b : Bool) → Among (firstGiven (tests rows)) rows → (cond b (r .0) (firstGiven (tests rows)) ≡ r .0) ⊎ Among (cond b (r .0) (firstGiven (tests rows))) rows
+    go : (b : Bool) → Among (firstGiven (tests rows)) (conditions rows) → (cond b (r .0) (firstGiven (tests rows)) ≡ r .0) ⊎ Among (cond b (r .0) (firstGiven (tests rows))) (conditions rows)
     go true h = inl refl
     go false h = inr h
 
@@ -60,7 +55,7 @@ unequal : (m n : ℕ) → not (eqb m n) ≡ true → m ≡ n → ⊥
 unequal m n e h = true≢false (sym e ∙ ap not (eq-eqb m n h))
 
 -- a fresh number is none of the table, nor 0
-fresh-apart : (n k : ℕ) (rows : List Row) → fresh k rows ≡ true → Among n rows → n ≡ k → ⊥
+fresh-apart : (n k : ℕ) (rows : List Row) → fresh k rows ≡ true → Among n (conditions rows) → n ≡ k → ⊥
 unfolding Among
 fresh-apart n k [] e m h = unequal k 0 e (sym h ∙ m)
 fresh-apart n k (r ∷ rows) e m h =
@@ -69,7 +64,7 @@ fresh-apart n k (r ∷ rows) e m h =
 
 -- where nothing before holds the table gives the number, and wherever one of its numbers or 0 is given nothing before holds
 exactly : (rows : List Row) (given : ℕ) (before : Type 0) → apart rows ≡ true → Right before rows
-    → (before → given ≡ firstGiven (tests rows)) → ((n : ℕ) → Among n rows → given ≡ n → before) → ExactlyWhen given before (conditions rows)
+    → (before → given ≡ firstGiven (tests rows)) → ((n : ℕ) → Among n (conditions rows) → given ≡ n → before) → ExactlyWhen given before (conditions rows)
 unfolding ExactlyWhen Among
 exactly [] given before a r h k = (λ e. k 0 refl e, h)
 exactly (row ∷ rows) given before a r h k =
@@ -94,5 +89,6 @@ exactly (row ∷ rows) given before a r h k =
     holds false t b f e = absurd (fresh-apart (firstGiven (tests rows)) (row .0) rows f (given-among rows) (sym (left b t) ∙ e))
 
 -- a table of tests that stand for their conditions gives each number exactly when
-pub table-exactly : (rows : List Row) → apart rows ≡ true → Right (Unit {0}) rows → ExactlyWhen (firstGiven (tests rows)) (Unit {0}) (conditions rows)
-table-exactly rows a r = exactly rows (firstGiven (tests rows)) (Unit {0}) a r (λ b. refl) (λ n m e. tt)
+pub table-exactly : (rows : List Row) → apart rows ≡ true → Right (Unit {0}) rows → GivenExactlyWhen (firstGiven (tests rows)) (conditions rows)
+table-exactly rows a r =
+    record { answered = given-among rows; exactly = exactly rows (firstGiven (tests rows)) (Unit {0}) a r (λ b. refl) (λ n m e. tt) }

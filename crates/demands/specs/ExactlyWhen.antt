@@ -27,6 +27,18 @@ ExactlyWhen given before [] = (given ≡ 0) ↔ before
 ExactlyWhen given before (row ∷ rows) =
     ((given ≡ row .0) ↔ (before × row .1)) × ExactlyWhen given (before × (row .1 → ⊥)) rows
 
+-- a number of a table, or 0
+unfoldable pub Among : ℕ → List (ℕ × Type 0) → Type 0
+Among n [] = n ≡ 0
+Among n (row ∷ rows) = (n ≡ row .0) ⊎ Among n rows
+
+-- what is asked of a number and its table
+pub record GivenExactlyWhen (given : ℕ) (table : List (ℕ × Type 0)) : Type 0 where
+  -- whatever comes in gets an answer: a number of the table, or 0
+  pub answered : Among given table
+  -- each number has its condition and its place in the order
+  pub exactly : ExactlyWhen given (Unit {0}) table
+
 -- ---- a line
 
 -- the digits 0 to 9 and a to f
@@ -112,4 +124,4 @@ stepTable M s p i out =
 -- each of its numbers is given exactly when
 abbrev pub StepExactlyWhen : Machine → Type 0
 StepExactlyWhen M =
-    (s : Settings) (p : M .Stored) (i : Input) (out : List ℕ) → ExactlyWhen (M .step s p i out .number) (Unit {0}) (stepTable M s p i out)
+    (s : Settings) (p : M .Stored) (i : Input) (out : List ℕ) → GivenExactlyWhen (M .step s p i out .number) (stepTable M s p i out)

@@ -11,3 +11,4 @@ pub mod Strays
 pub mod GroupPlays
 pub mod SameCall
 pub mod TwoCabs
+pub mod OneAnswer

@@ -3,7 +3,9 @@ use mathlib.Core.Path.{_≡_}
 use mathlib.Core.List.{List}
 use mathlib.Core.Bool.{Bool, true, false}
 use Prim.Native.Nat.{ℕ, _≤_}
+use lib.ListN.{length}
 use Rattle.frame.specs.Frame.{inRange}
+use Rattle.frame.specs.Lent.{atFront}
 use Rattle.frame.specs.declared.Media.{Media}
 use Rattle.frame.specs.declared.Message.{Message}
 use Rattle.call.specs.Settings.{settingsGood}
@@ -25,7 +27,7 @@ use Rattle.private_rows.specs.declared.states.Timers as PrivateTimers
 use Rattle.private_rows.specs.declared.states.PrivateRecord.{PrivateRecord}
 use Rattle.private_rows.specs.declared.rows.Row.the-variants.{R1}
 use Rattle.private_effects.specs.Carried as Carried
-use Rattle.private_call.specs.Step.{doneOf, stepOf, stepBuffer}
+use Rattle.private_call.specs.Step.{doneOf, stepLine, movedOf, stepOf, stepBuffer}
 use Rattle.private_call.specs.declared.Stepped.{Stepped}
 use Rattle.group_rows.specs.States as GroupStates
 use Rattle.group_rows.specs.Formed as GroupFormed
@@ -80,6 +82,8 @@ pub record Machine : Type 1 where
   pub sent : Settings → Stored → Input → Send
   -- the media that stands beside it: that of the next record
   pub media : Settings → Stored → Input → Media
+  -- the answer that the row that is met asks for: its number and what carrying it out gives, with the length of its line
+  pub carried : Settings → Stored → Input → Answer Stored Timers
   -- the answer of a step with a lent buffer
   pub step : Settings → Stored → Input → List ℕ → Answer Stored Timers
   -- the buffer after it
@@ -102,6 +106,12 @@ abbrev pub IsDiscarded : (M : Machine) → Settings → M .Stored → Input → 
 IsDiscarded M s p i out = IsRefused M 0 s p i out
 
 -- ---- what is asked of the steps of a machine
+
+-- a step that is not refused answers as the row that is met says: row, next record, timers to stop, then to start, and its line at the front of the buffer
+abbrev pub CarriesOut : Machine → Type 0
+CarriesOut M =
+    (s : Settings) (p : M .Stored) (i : Input) (out : List ℕ) → M .step s p i out .number ≡ 0
+    → (M .step s p i out ≡ M .carried s p i) × (M .buffer s p i out ≡ atFront (lineToSend M s p i) out)
 
 -- from good settings and a well-formed record, whatever the input and the buffer, the next record is well formed
 abbrev pub KeepsWellFormed : Machine → Type 0
@@ -162,6 +172,7 @@ privateMachine =
       RefusedByRow = IdentifierStored;
       sent = λ s p i. doneOf s p i .sent;
       media = λ s p i. doneOf s p i .next .call .media;
+      carried = λ s p i. privateAnswer (movedOf (rowOf s p i) (doneOf s p i) (length (stepLine s p i)));
       step = λ s p i out. privateAnswer (stepOf s p i out);
       buffer = stepBuffer;
     }
@@ -192,6 +203,7 @@ groupMachine =
       RefusedByRow = ChangeNotLater;
       sent = λ s g i. GroupStep.doneOf s g i .sent;
       media = λ s g i. GroupStep.doneOf s g i .next .media;
+      carried = λ s g i. groupAnswer (GroupStep.movedOf (GroupRows.rowOf s g (i .event)) (GroupStep.doneOf s g i) (length (GroupStep.stepLine s g i)));
       step = λ s g i out. groupAnswer (GroupStep.stepOf s g i out);
       buffer = GroupStep.stepBuffer;
     }

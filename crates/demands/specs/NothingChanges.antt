@@ -1,10 +1,13 @@
 -- A refusal changes nothing, and what is not refused changes only what it says. Assumes nothing.
 use mathlib.Core.Path.{_≡_}
-use mathlib.Core.List.{List}
+use mathlib.Core.List.{List, []}
 use Prim.Native.Nat.{ℕ}
 use lib.ListN.{length}
+use denote.Ref.{RefT}
 use Rattle.frame.specs.Lent.{atFront}
+use Rattle.frame.specs.Line.{lineNumber, readLine, refusal}
 use Rattle.frame.specs.declared.Written.{Written}
+use Rattle.chooser.specs.Choice.{choiceOf, choiceNumber, placeOf}
 use Rattle.call.specs.declared.Settings.{Settings}
 use Rattle.call.specs.declared.Input.{Input}
 use Rattle.demands.specs.Machines.{Answer, Machine, lineToSend}
@@ -23,6 +26,18 @@ Done text told lent after = (told ≡ length text) × (after ≡ atFront text le
 abbrev pub NothingChanges : List ℕ → Written → List ℕ → List ℕ → Type 0
 NothingChanges text result lent after =
     (((result .number ≡ 0) → ⊥) → Kept (result .length) lent after) × (result .number ≡ 0 → Done text (result .length) lent after)
+
+-- ---- what is lent to be read
+
+-- the reader: to a line with a number it answers that number, and neither message nor media
+abbrev pub ReadNothingChanges : Type 0
+ReadNothingChanges = (l : List ℕ) → (lineNumber l ≡ 0 → ⊥) → readLine l ≡ refusal (lineNumber l)
+
+-- the chooser: where its question has a number, it hands back no bytes, at the front of the first line
+abbrev pub ChooseNothingChanges : Type 0
+ChooseNothingChanges =
+    (first second : RefT (List ℕ)) → (choiceNumber (first .now) (second .now) ≡ 0 → ⊥)
+    → placeOf (choiceOf (first .now) (second .now)) first second ≡ (first .ptr, [])
 
 -- ---- a step of a call machine
 

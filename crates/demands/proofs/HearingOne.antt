@@ -8,7 +8,7 @@ use native.Mathlib.Omega.{arith}
 use lib.Dec.{eqb, ltb}
 use borrow.Author.Tests.{eq-eqb, eqb-true, eqb-false, le-ltb}
 use Rattle.frame.specs.Frame.{inRange}
-use Rattle.frame.specs.Line.{readLine, reading}
+use Rattle.frame.specs.Line.{numberOf, reading, readLine}
 use Rattle.frame.specs.declared.Media.{Media}
 use Rattle.frame.specs.declared.GroupCall.{GroupCall}
 use Rattle.frame.specs.declared.Message.{Message}
@@ -16,7 +16,8 @@ use Rattle.frame.specs.declared.Message.the-variants.{SetupRequest, Ringing, Ac
 use Rattle.frame.specs.declared.Read.{Read}
 use Rattle.frame.specs.declared.Read.the-variants.{Readable, Refused}
 use Rattle.frame.specs.declared.Reading.{Reading}
-use Rattle.frame.proofs.OnlyLine.{line-is-the-only-one}
+use Rattle.frame.proofs.OnlyLine.{line-is-the-only-one, number-read}
+use Rattle.frame.proofs.LineNumbers.{read-number}
 use Rattle.call.specs.Settings.{settingsGood}
 use Rattle.call.specs.declared.Settings.{Settings}
 use Rattle.call.specs.declared.Verdicts.{Verdicts}
@@ -36,7 +37,7 @@ use Rattle.group_call.specs.declared.Stepped.{Stepped}
 use Rattle.group_call.proofs.Steps.{keeps-well-formed}
 use Rattle.group_call.proofs.Unheeded.{other-discarded}
 use Rattle.group_call.proofs.Merging.{ongoing-is, merged, refreshed, better-joined, not-better-discarded, same-refreshed}
-use Rattle.demands.specs.SameCall.{Call, callOf, Announcing, InCall}
+use Rattle.demands.specs.SameCall.{Call, callOf, Announcing, InCall, Unsent}
 
 -- a line announces a call of the own group
 abbrev pub Brings : Settings → List ℕ → Call → Type 0
@@ -46,8 +47,8 @@ Brings s line c = Announcing line c × (c .0 .group ≡ s .«own_group»)
 pub record Heeded (s : Settings) (g : GroupRecord) (x : HeardLine) (answer : Stepped × List ℕ) : Type 0 where
   -- the cab is still in a call
   pub inCall : InCall s (answer .0 .next)
-  -- nothing is sent
-  pub silent : (answer .0 .length ≡ 0) × (answer .1 ≡ x .lent)
+  -- the answer is the line's number, and nothing is sent
+  pub silent : Unsent x answer
   -- its call is the one that it had, or one that the line brings
   pub known : (callOf (answer .0 .next) ≡ callOf g) ⊎ Brings s (x .line) (callOf (answer .0 .next))
   -- the call that it had is not better
@@ -123,16 +124,22 @@ module _ (s : Settings) (stored : GroupCall) (own : Media) (x : HeardLine) (good
   g = ongoing stored own
 
   -- a line that leaves the record as it was, and brings nothing better
-  keeps : (answer : Stepped × List ℕ) → answer .0 .next ≡ g → answer .0 .length ≡ 0 → answer .1 ≡ x .lent
+  keeps : (answer : Stepped × List ℕ) → answer .0 .next ≡ g → Unsent x answer
       → ((c : Call) → Brings s (x .line) c → isBetter (c .0) stored ≡ false) → Heeded s g x answer
-  keeps answer e l b worse =
+  keeps answer e unsent worse =
       record {
         inCall = subst (λ (h : GroupRecord). InCall s h) (sym e) (record { settings = good; formed = formed; ongoing = refl });
-        silent = (l, b);
+        silent = unsent;
         known = inl (ap callOf e);
         oldNotBetter = ap (λ (h : GroupRecord). isBetter stored (h .call)) e ∙ never-itself stored;
         broughtNotBetter = λ c m. ap (λ (h : GroupRecord). isBetter (c .0) (h .call)) e ∙ worse c m;
       }
+
+  -- the answer of a step, where it has number 0 and length 0 and the line was read
+  unsent-step : (m : Message) (media : Media) → readLine (x .line) ≡ reading m media → (answer : Stepped × List ℕ) (a : Stepped) → answer .0 ≡ a → a .number ≡ 0
+      → a .length ≡ 0 → answer .1 ≡ x .lent → Unsent x answer
+  unsent-step m media e answer a d n l b =
+      (ap (λ (y : Stepped). y .number) d ∙ (n ∙ sym (read-number (x .line) m media e)), ap (λ (y : Stepped). y .length) d ∙ l, b)
 
   -- a line that brings nothing
   brings-none : (r : Read) (media : Media) → readLine (x .line) ≡ readAs r media → ownRead (s .«own_group») r ≡ false → (c : Call) → Brings s (x .line) c
@@ -147,16 +154,16 @@ module _ (s : Settings) (stored : GroupCall) (own : Media) (x : HeardLine) (good
       let ranged = line-is-the-only-one (x .line) m media e .1 .ranged in
       let d = other-discarded s g (inputOf (Event.Message m) media (x .verdicts)) (x .lent)
       (record { settings = good; formed = formed; message = ranged; arguments = refl }) (unbrought (s .«own_group») m f) in
-      keeps _ (ap (λ (a : Stepped). a .next) (d .0)) (ap (λ (a : Stepped). a .length) (d .0)) (d .1) (brings-none (Readable m) media e f)
+      keeps _ (ap (λ (a : Stepped). a .next) (d .0)) (unsent-step m media e _ _ (d .0) refl refl (d .1)) (brings-none (Readable m) media e f)
 
   -- a call that the line brings is joined
-  joins : (call : GroupCall) (media : Media) (answer : Stepped × List ℕ) → answer .0 ≡ merged call media → answer .1 ≡ x .lent
+  joins : (call : GroupCall) (media : Media) (answer : Stepped × List ℕ) → answer .0 ≡ merged call media → Unsent x answer
       → wellFormed s (answer .0 .next) ≡ true → Brings s (x .line) (call, media) → isBetter call stored ≡ true → Heeded s g x answer
-  joins call media answer e b w m better =
+  joins call media answer e unsent w m better =
       let n : answer .0 .next ≡ ongoing call media = ap (λ (a : Stepped). a .next) e in
       record {
         inCall = record { settings = good; formed = w; ongoing = ap (λ (h : GroupRecord). h .state) n };
-        silent = (ap (λ (a : Stepped). a .length) e, b);
+        silent = unsent;
         known = inr (subst (λ (c : Call). Brings s (x .line) c) (sym (ap callOf n)) m);
         oldNotBetter = ap (λ (h : GroupRecord). isBetter stored (h .call)) n ∙ asymmetric call stored better;
         broughtNotBetter = λ c k.
@@ -188,20 +195,23 @@ module _ (s : Settings) (stored : GroupCall) (own : Media) (x : HeardLine) (good
       only : (c : Call) → Brings s (x .line) c → c ≡ (call, media)
       only c m = announced-one (x .line) c (call, media) (m .0) (brought .0)
 
+      sent : {answer : Stepped × List ℕ} {a : Stepped} → answer .0 ≡ a → a .number ≡ 0 → a .length ≡ 0 → answer .1 ≡ x .lent → Unsent x answer
+      sent {answer} {a} = unsent-step (Announcement call confirm) media e answer a
+
       go : (same better : Bool) → sameIdentifier call stored ≡ same → isBetter call stored ≡ better
           → Heeded s g x (promised s g (hears call confirm media (x .verdicts)) (x .lent))
       go true better p q =
           let d = same-refreshed s stored own call confirm media (x .verdicts) (x .lent) good formed ranged o p in
           let is = alike (call, media) brought (eqb-true (call .identifier) (stored .identifier) p) in
           keeps _ (ap (λ (a : Stepped). a .next) (d .0) ∙ ap (λ (c : GroupCall). ongoing c own) (same-change call (ap (λ (c : Call). c .0) is)))
-          (ap (λ (a : Stepped). a .length) (d .0)) (d .1)
+          (sent (d .0) refl refl (d .1))
           (λ c m. ap (λ (k : Call). isBetter (k .0) stored) (only c m ∙ is) ∙ never-itself stored)
       go false true p q =
           let d = better-joined s stored own call confirm media (x .verdicts) (x .lent) good formed ranged o p q in
-          joins call media _ (d .0) (d .1) (keeps-well-formed s g (hears call confirm media (x .verdicts)) (x .lent) good formed) brought q
+          joins call media _ (d .0) (sent (d .0) refl refl (d .1)) (keeps-well-formed s g (hears call confirm media (x .verdicts)) (x .lent) good formed) brought q
       go false false p q =
           let d = not-better-discarded s stored own call confirm media (x .verdicts) (x .lent) good formed ranged o p q in
-          keeps _ (ap (λ (a : Stepped). a .next) (d .0)) (ap (λ (a : Stepped). a .length) (d .0)) (d .1)
+          keeps _ (ap (λ (a : Stepped). a .next) (d .0)) (sent (d .0) refl refl (d .1))
           (λ c m. ap (λ (k : Call). isBetter (k .0) stored) (only c m) ∙ q)
 
   -- whatever message was read
@@ -226,7 +236,7 @@ module _ (s : Settings) (stored : GroupCall) (own : Media) (x : HeardLine) (good
   heeded-read : AlikeBrought → (r : Read) (media : Media) → readLine (x .line) ≡ readAs r media
       → Heeded s g x (answerTo promised s g r media (x .verdicts) (x .lent))
   unfolding ownRead
-  heeded-read alike (Refused n) media e = keeps _ refl refl refl (brings-none (Refused n) media e refl)
+  heeded-read alike (Refused n) media e = keeps _ refl (sym (ap (λ (y : Reading). numberOf (y .read)) e) ∙ number-read (x .line), refl, refl) (brings-none (Refused n) media e refl)
   heeded-read alike (Readable m) media e = heeded-message alike m media e
 
 -- whatever line is heard, where a call that it brings is alike the stored one if it has its identifier

@@ -4,7 +4,7 @@ use mathlib.Core.Logic.{_⊎_}
 use mathlib.Core.List.{List, [], _∷_, List·Memᴰ}
 use mathlib.Core.Bool.{true, false}
 use Prim.Native.Nat.{ℕ}
-use Rattle.frame.specs.Line.{readLine, reading}
+use Rattle.frame.specs.Line.{lineNumber, readLine, reading}
 use Rattle.frame.specs.declared.Media.{Media}
 use Rattle.frame.specs.declared.GroupCall.{GroupCall}
 use Rattle.frame.specs.declared.Message.the-variants.{Announcement}
@@ -15,6 +15,7 @@ use Rattle.group_rows.specs.Formed.{wellFormed}
 use Rattle.group_rows.specs.declared.states.State.{State}
 use Rattle.group_rows.specs.declared.states.GroupRecord.{GroupRecord}
 use Rattle.group_call.specs.Hearing.{HeardLine, Build, answerHearing, hear, hearAll}
+use Rattle.group_call.specs.declared.Stepped.{Stepped}
 
 -- ---- a cab and the calls that it knows of
 
@@ -95,11 +96,14 @@ pub record Best (known : Call → Type 0) (c : Call) : Type 0 where
 abbrev pub endOf : Build → Cab → GroupRecord
 endOf b x = hearAll b (x .settings) (x .stored) (x .lines)
 
--- no line is answered with a message: length 0, and every byte of the lent buffer as it was
+-- an answer to a line that refuses nothing but the line, and sends nothing: the line's number, length 0, and every byte of the lent buffer as it was
+abbrev pub Unsent : HeardLine → Stepped × List ℕ → Type 0
+Unsent x answer = (answer .0 .number ≡ lineNumber (x .line)) × (answer .0 .length ≡ 0) × (answer .1 ≡ x .lent)
+
+-- every line is answered so
 abbrev pub Silent : Build → Settings → GroupRecord → List HeardLine → Type 0
 Silent b s g [] = Unit {0}
-Silent b s g (x ∷ xs) =
-    ((answerHearing b s g x .0 .length ≡ 0) × (answerHearing b s g x .1 ≡ x .lent)) × Silent b s (hear b s g x) xs
+Silent b s g (x ∷ xs) = Unsent x (answerHearing b s g x) × Silent b s (hear b s g x) xs
 
 -- one cab: it stays in S3, its call is then the best of those that it knows of, and it sent nothing
 pub record EndsInBest (b : Build) (x : Cab) : Type 0 where
@@ -109,7 +113,7 @@ pub record EndsInBest (b : Build) (x : Cab) : Type 0 where
   pub best : Best (Knows x) (callOf (endOf b x))
   -- so it is better than each other one
   pub othersWorse : (c : Call) → Knows x c → (c ≡ callOf (endOf b x)) ⊎ (isBetter (endOf b x .call) (c .0) ≡ true)
-  -- nothing was sent
+  -- no readable line was refused, and nothing was sent
   pub silent : Silent b (x .settings) (x .stored) (x .lines)
 
 -- two cabs: each does so, and they are in the same call

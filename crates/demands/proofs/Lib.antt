@@ -15,3 +15,7 @@ pub mod HearingOne
 pub mod SameCall
 pub mod TwoCabs
 pub mod Promised
+pub mod Consequences
+pub mod GroupHeeds
+pub mod Varying
+pub mod PrivateHeeds

@@ -50,12 +50,12 @@ use Rattle.demands.specs.MarkedCases.{steps, step-holds, last-expiry-hol
 use Rattle.demands.specs.MarkedCases.{merges, lowerWins, typeBeats, merges-holds, lower-wins-holds, type-beats-holds, choosing-holds}
 
 -- a test that is computed at each number below n, and what it shows of each
-below : ℕ → (ℕ → Bool) → Bool
+unfoldable pub below : ℕ → (ℕ → Bool) → Bool
 below zero p = true
 below (suc n) p = p n && below n p
 
 -- what such a test shows of each number
-at : (n : ℕ) (p : ℕ → Bool) → below n p ≡ true → (i : ℕ) → i < n → p i ≡ true
+pub at : (n : ℕ) (p : ℕ → Bool) → below n p ≡ true → (i : ℕ) → i < n → p i ≡ true
 unfolding below
 at zero p e i h = absurd (not-suc-le-zero h)
 at (suc n) p e i h =

@@ -12,3 +12,4 @@ pub mod GroupPlays
 pub mod SameCall
 pub mod TwoCabs
 pub mod OneAnswer
+pub mod Consequences

@@ -1,0 +1,143 @@
+-- The rows there are, no standstill after any steps, and answers that vary, proved of both call machines. Assumes nothing.
+use mathlib.Core.Path.{_≡_, refl, sym, ap, _∙_, subst}
+use mathlib.Core.Logic.{⊎-elim}
+use mathlib.Core.List.{List, [], _∷_}
+use mathlib.Core.Bool.{Bool, true, false, cond, _&&_, _||_, false≢true}
+use Prim.Native.Nat.{ℕ, zero, suc, _≤_}
+use native.Mathlib.Omega.{arith}
+use lib.Dec.{leb, eqb}
+use borrow.Author.Tests.{leb-true, eqb-true, eqb-false}
+use Rattle.frame.proofs.Laws.{and-split, or-cases}
+use Rattle.call.specs.Settings.{settingsGood}
+use Rattle.call.specs.Meeting.{firstMet}
+use Rattle.call.specs.declared.Settings.{Settings}
+use Rattle.call.specs.declared.Input.{Input}
+use Rattle.private_rows.specs.Rows as Rows
+use Rattle.private_rows.specs.declared.states.Phase.{Phase}
+use Rattle.private_rows.specs.declared.causes.Cause.{Cause}
+use Rattle.private_rows.specs.declared.causes.Facts.{Facts}
+use Rattle.private_rows.specs.declared.rows.Row.the-variants as PrivateRow
+use Rattle.private_call.proofs.Steps as Steps
+use Rattle.private_call.proofs.MarkedSteps.{row-done}
+use Rattle.group_rows.specs.Rows as GroupRows
+use Rattle.group_rows.specs.declared.states.State.{State}
+use Rattle.group_rows.specs.declared.causes.Cause as GroupCause
+use Rattle.group_rows.specs.declared.causes.Facts as GroupFacts
+use Rattle.group_rows.specs.declared.rows.Row.the-variants as GroupRow
+use Rattle.group_call.specs.declared.Stepped as GroupStepped
+use Rattle.group_call.proofs.Steps as GroupSteps
+use Rattle.demands.specs.Machines.{Machine, KeepsWellFormed, privateMachine, groupMachine}
+use Rattle.demands.specs.ExactlyWhen.{ExactlyWhen, StepExactlyWhen}
+use Rattle.demands.specs.NothingChanges.{StepNothingChanges}
+use Rattle.demands.specs.RowPlays.{Play, play, lent, AllComeOut, plays}
+use Rattle.demands.specs.GroupPlays.{groupPlays}
+use Rattle.demands.specs.Consequences.{KnownRows, RowTold, EveryRowTold, Heeds, NeverStill}
+use Rattle.demands.proofs.MarkedCases.{below, at}
+use Rattle.demands.proofs.NothingChanges.{step-nothing-changes}
+use Rattle.demands.proofs.ExactlyWhen.{step-exactly-when}
+use Rattle.demands.proofs.GroupMachine.{group-step-nothing-changes, group-step-exactly-when}
+use Rattle.demands.proofs.RowPlays.{plays-come-out}
+use Rattle.demands.proofs.GroupPlays.{group-plays-come-out}
+
+-- ---- no other row
+
+-- every row of a list passes a test
+abbrev every : {Row : Type 0} → (Row → Bool) → List (Row × Bool) → Bool
+every test [] = true
+every test (row ∷ rows) = test (row .0) && every test rows
+
+-- then the row that is met passes it
+met-passes : {Row : Type 0} (test : Row → Bool) (none : Row) (rows : List (Row × Bool)) → test none ≡ true → every test rows ≡ true
+    → test (firstMet none rows) ≡ true
+met-passes test none [] n e = n
+met-passes test none (row ∷ rows) n e =
+    let p = and-split (test (row .0)) (every test rows) e in go (row .1) (p .0) (met-passes test none rows n (p .1))
+  where
+    go : (b : Bool) → test (row .0) ≡ true → test (firstMet none rows) ≡ true → test (cond b (row .0) (firstMet none rows)) ≡ true
+    go true x y = x
+    go false x y = y
+
+-- a refusal tells row 0, so the rows of the steps that are not refused are all
+known-rows : (M : Machine) (last : ℕ) → StepNothingChanges M
+    → ((s : Settings) (p : M .Stored) (i : Input) (out : List ℕ) → M .step s p i out .number ≡ 0 → M .step s p i out .row ≤ last) → KnownRows M last
+known-rows M last kept known s p i out = go (eqb (M .step s p i out .number) 0) refl
+  where
+    go : (b : Bool) → eqb (M .step s p i out .number) 0 ≡ b → M .step s p i out .row ≤ last
+    go true t = known s p i out (eqb-true _ 0 t)
+    go false t = let z = kept s p i out .0 (eqb-false _ 0 t) .1 in omega (arith, z)
+
+-- the private rows are R1 to R29
+private-row : (f : Phase) (c : Cause) (x : Facts) → Rows.rowNumber (Rows.rowIn f c x) ≤ 29
+unfolding Rows.rowIn
+private-row f c x = leb-true _ 29 (met-passes (λ row. leb (Rows.rowNumber row) 29) PrivateRow.Discard (Rows.rowsAsk f c x) refl refl)
+
+-- the private call machine has the rows 1 to 29
+pub private-known-rows : KnownRows privateMachine 29
+private-known-rows =
+    known-rows privateMachine 29 step-nothing-changes (λ s p i out e.
+    subst (λ (n : ℕ). n ≤ 29) (sym (row-done s p i out (sym (Steps.number-told s p i out) ∙ e))) (private-row _ _ _))
+
+-- the group rows are G1 to G11
+group-row : (f : State) (c : GroupCause.Cause) (x : GroupFacts.Facts) → GroupRows.rowNumber (GroupRows.rowIn f c x) ≤ 11
+unfolding GroupRows.rowIn
+group-row f c x = leb-true _ 11 (met-passes (λ row. leb (GroupRows.rowNumber row) 11) GroupRow.Discard (GroupRows.rowsAsk f c x) refl refl)
+
+-- the group call machine has the rows 1 to 11
+pub group-known-rows : KnownRows groupMachine 11
+group-known-rows =
+    known-rows groupMachine 11 group-step-nothing-changes (λ s g i out e.
+    subst (λ (n : ℕ). n ≤ 11) (sym (ap (λ (x : GroupStepped.Stepped). x .row) (GroupSteps.step-done s g i out (sym (GroupSteps.number-told s g i out) ∙ e) .0)))
+    (group-row _ _ _))
+
+-- ---- every row
+
+-- a row is that of a play
+abbrev isPlayed : {M : Machine} → List (Play M) → ℕ → Bool
+isPlayed [] n = false
+isPlayed (play row s p i stop start next line ∷ xs) n = eqb row n || isPlayed xs n
+
+-- a number 0 is given only to good settings and a well-formed record
+taken : (M : Machine) → StepExactlyWhen M → (s : Settings) (p : M .Stored) (i : Input) (out : List ℕ) → M .step s p i out .number ≡ 0
+    → (settingsGood s ≡ true) × (M .wellFormed s p ≡ true)
+unfolding ExactlyWhen
+taken M told s p i out e =
+    let passed = told s p i out .1 .1 .1 .1 .1 .0 e in
+    (holds (settingsGood s) refl (passed .0 .0 .0 .0 .1), holds (M .wellFormed s p) refl (passed .0 .0 .0 .1))
+  where
+    holds : (b : Bool) {c : Bool} → c ≡ b → (c ≡ false → ⊥) → c ≡ true
+    holds true t f = t
+    holds false t f = absurd (f t)
+
+-- a row that is played is told
+played-told : (M : Machine) → StepExactlyWhen M → (xs : List (Play M)) → AllComeOut M xs → (n : ℕ) → isPlayed xs n ≡ true → RowTold M n
+played-told M told [] out n e = absurd (false≢true e)
+played-told M told (play row s p i stop start next line ∷ xs) out n e =
+    ⊎-elim (λ t. here (eqb-true row n t)) (λ t. played-told M told xs (out .1) n t) (or-cases (eqb row n) (isPlayed xs n) e)
+  where
+    here : row ≡ n → RowTold M n
+    here t =
+        let number : M .step s p i lent .number ≡ 0 = λ j. out .0 .0 j .number in
+        let from = taken M told s p i lent number in (s, p, i, lent, from .0, from .1, number, (λ j. out .0 .0 j .row) ∙ t)
+
+-- where every row of the list is played, every row is told
+every-row-told : (M : Machine) → StepExactlyWhen M → (xs : List (Play M)) → AllComeOut M xs → (last : ℕ) → below last (λ n. isPlayed xs (suc n)) ≡ true
+    → EveryRowTold M last
+every-row-told M told xs out last e zero h k = let z : ⊥ = omega (arith, h) in absurd z
+every-row-told M told xs out last e (suc n) h k = played-told M told xs out (suc n) (at last (λ n. isPlayed xs (suc n)) e n (omega (arith, k)))
+
+-- every private row is told
+pub private-every-row : EveryRowTold privateMachine 29
+unfolding below plays
+private-every-row = every-row-told privateMachine step-exactly-when plays plays-come-out 29 refl
+
+-- every group row is told
+pub group-every-row : EveryRowTold groupMachine 11
+unfolding below groupPlays
+group-every-row = every-row-told groupMachine group-step-exactly-when groupPlays group-plays-come-out 11 refl
+
+-- ---- no standstill
+
+-- well-formed records stay so, and from each of them some input is heeded
+pub never-still : (M : Machine) → KeepsWellFormed M → Heeds M → NeverStill M
+never-still M keeps heeds s p [] g w = heeds s p g w
+never-still M keeps heeds s p (x ∷ inputs) g w = never-still M keeps heeds s (M .step s p (x .0) (x .1) .next) inputs g (keeps s p (x .0) (x .1) g w)

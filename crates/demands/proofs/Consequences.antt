@@ -1,5 +1,5 @@
 -- The rows there are, no standstill after any steps, and answers that vary, proved of both call machines. Assumes nothing.
-use mathlib.Core.Path.{_≡_, refl, sym, ap, _∙_, subst}
+use mathlib.Core.Path.{_≡_, refl, sym, _∙_, subst}
 use mathlib.Core.Logic.{⊎-elim}
 use mathlib.Core.List.{List, [], _∷_}
 use mathlib.Core.Bool.{Bool, true, false, cond, _&&_, _||_, false≢true}
@@ -17,16 +17,12 @@ use Rattle.private_rows.specs.declared.states.Phase.{Phase}
 use Rattle.private_rows.specs.declared.causes.Cause.{Cause}
 use Rattle.private_rows.specs.declared.causes.Facts.{Facts}
 use Rattle.private_rows.specs.declared.rows.Row.the-variants as PrivateRow
-use Rattle.private_call.proofs.Steps as Steps
-use Rattle.private_call.proofs.MarkedSteps.{row-done}
 use Rattle.group_rows.specs.Rows as GroupRows
 use Rattle.group_rows.specs.declared.states.State.{State}
 use Rattle.group_rows.specs.declared.causes.Cause as GroupCause
 use Rattle.group_rows.specs.declared.causes.Facts as GroupFacts
 use Rattle.group_rows.specs.declared.rows.Row.the-variants as GroupRow
-use Rattle.group_call.specs.declared.Stepped as GroupStepped
-use Rattle.group_call.proofs.Steps as GroupSteps
-use Rattle.demands.specs.Machines.{Machine, KeepsWellFormed, privateMachine, groupMachine}
+use Rattle.demands.specs.Machines.{Answer, Machine, CarriesOut, KeepsWellFormed, privateMachine, groupMachine}
 use Rattle.demands.specs.ExactlyWhen.{ExactlyWhen, StepExactlyWhen}
 use Rattle.demands.specs.NothingChanges.{StepNothingChanges}
 use Rattle.demands.specs.RowPlays.{Play, play, lent, AllComeOut, plays}
@@ -35,7 +31,8 @@ use Rattle.demands.specs.Consequences.{KnownRows, RowTold, EveryRowTold,
 use Rattle.demands.proofs.MarkedCases.{below, at}
 use Rattle.demands.proofs.NothingChanges.{step-nothing-changes}
 use Rattle.demands.proofs.ExactlyWhen.{step-exactly-when}
-use Rattle.demands.proofs.GroupMachine.{group-step-nothing-changes, group-step-exactly-when}
+use Rattle.demands.proofs.Machines.{private-carries-out}
+use Rattle.demands.proofs.GroupMachine.{group-carries-out, group-step-nothing-changes, group-step-exactly-when}
 use Rattle.demands.proofs.RowPlays.{plays-come-out}
 use Rattle.demands.proofs.GroupPlays.{group-plays-come-out}
 
@@ -57,13 +54,13 @@ met-passes test none (row ∷ rows) n e =
     go true x y = x
     go false x y = y
 
--- a refusal tells row 0, so the rows of the steps that are not refused are all
-known-rows : (M : Machine) (last : ℕ) → StepNothingChanges M
-    → ((s : Settings) (p : M .Stored) (i : Input) (out : List ℕ) → M .step s p i out .number ≡ 0 → M .step s p i out .row ≤ last) → KnownRows M last
-known-rows M last kept known s p i out = go (eqb (M .step s p i out .number) 0) refl
+-- a refusal tells row 0, and what is not refused the row that is met
+known-rows : (M : Machine) (last : ℕ) → StepNothingChanges M → CarriesOut M → ((s : Settings) (p : M .Stored) (i : Input) → M .carried s p i .row ≤ last)
+    → KnownRows M last
+known-rows M last kept carries known s p i out = go (eqb (M .step s p i out .number) 0) refl
   where
     go : (b : Bool) → eqb (M .step s p i out .number) 0 ≡ b → M .step s p i out .row ≤ last
-    go true t = known s p i out (eqb-true _ 0 t)
+    go true t = subst (λ (x : Answer (M .Stored) (M .Timers)). x .row ≤ last) (sym (carries s p i out (eqb-true _ 0 t) .0)) (known s p i)
     go false t = let z = kept s p i out .0 (eqb-false _ 0 t) .1 in omega (arith, z)
 
 -- the private rows are R1 to R29
@@ -73,9 +70,7 @@ private-row f c x = leb-true _ 29 (met-passes (λ row. leb (Rows.rowNumber row) 
 
 -- the private call machine has the rows 1 to 29
 pub private-known-rows : KnownRows privateMachine 29
-private-known-rows =
-    known-rows privateMachine 29 step-nothing-changes (λ s p i out e.
-    subst (λ (n : ℕ). n ≤ 29) (sym (row-done s p i out (sym (Steps.number-told s p i out) ∙ e))) (private-row _ _ _))
+private-known-rows = known-rows privateMachine 29 step-nothing-changes private-carries-out (λ s p i. private-row _ _ _)
 
 -- the group rows are G1 to G11
 group-row : (f : State) (c : GroupCause.Cause) (x : GroupFacts.Facts) → GroupRows.rowNumber (GroupRows.rowIn f c x) ≤ 11
@@ -84,10 +79,7 @@ group-row f c x = leb-true _ 11 (met-passes (λ row. leb (GroupRows.rowNumber ro
 
 -- the group call machine has the rows 1 to 11
 pub group-known-rows : KnownRows groupMachine 11
-group-known-rows =
-    known-rows groupMachine 11 group-step-nothing-changes (λ s g i out e.
-    subst (λ (n : ℕ). n ≤ 11) (sym (ap (λ (x : GroupStepped.Stepped). x .row) (GroupSteps.step-done s g i out (sym (GroupSteps.number-told s g i out) ∙ e) .0)))
-    (group-row _ _ _))
+group-known-rows = known-rows groupMachine 11 group-step-nothing-changes group-carries-out (λ s g i. group-row _ _ _)
 
 -- ---- every row
 
@@ -101,7 +93,7 @@ taken : (M : Machine) → StepExactlyWhen M → (s : Settings) (p : M .Stored) (
     → (settingsGood s ≡ true) × (M .wellFormed s p ≡ true)
 unfolding ExactlyWhen
 taken M told s p i out e =
-    let passed = told s p i out .1 .1 .1 .1 .1 .0 e in
+    let passed = told s p i out .exactly .1 .1 .1 .1 .1 .0 e in
     (holds (settingsGood s) refl (passed .0 .0 .0 .0 .1), holds (M .wellFormed s p) refl (passed .0 .0 .0 .1))
   where
     holds : (b : Bool) {c : Bool} → c ≡ b → (c ≡ false → ⊥) → c ≡ true

@@ -5,8 +5,8 @@ use mathlib.Core.List.{List}
 use mathlib.Core.Bool.{Bool, true, false, cond, true≢false}
 use Prim.Native.Nat.{ℕ}
 use native.Mathlib.Omega.{arith}
-use lib.Dec.{eqb, ltb}
-use borrow.Author.Tests.{eq-eqb, eqb-true, eqb-false, le-ltb}
+use lib.Dec.{eqb}
+use borrow.Author.Tests.{eq-eqb, eqb-true, le-ltb}
 use Rattle.frame.specs.Frame.{inRange}
 use Rattle.frame.specs.Line.{numberOf, reading, readLine}
 use Rattle.frame.specs.declared.Media.{Media}
@@ -20,23 +20,19 @@ use Rattle.frame.proofs.OnlyLine.{line-is-the-only-one, number-read}
 use Rattle.frame.proofs.LineNumbers.{read-number}
 use Rattle.call.specs.Settings.{settingsGood}
 use Rattle.call.specs.declared.Settings.{Settings}
-use Rattle.call.specs.declared.Verdicts.{Verdicts}
 use Rattle.call.specs.declared.Event.{Event}
-use Rattle.call.proofs.Stepping.{Taken}
 use Rattle.group_order.specs.Order.{isBetter}
 use Rattle.group_order.proofs.Order.{never-itself, asymmetric}
 use Rattle.group_rows.specs.Formed.{wellFormed}
 use Rattle.group_rows.specs.Causes.{messageCause, sameIdentifier}
-use Rattle.group_rows.specs.declared.states.State.{State}
 use Rattle.group_rows.specs.declared.states.GroupRecord.{GroupRecord}
 use Rattle.group_rows.specs.declared.causes.Cause.{Cause}
 use Rattle.group_call.specs.Carried.{changedBy, laterChange}
-use Rattle.group_call.specs.Step.{refusedOf, discarded, stepOf, stepBuffer}
-use Rattle.group_call.specs.Hearing.{ongoing, inputOf, hears, HeardLine, Build, promised, answerTo, answerHearing, hear}
+use Rattle.group_call.specs.Hearing.{ongoing, inputOf, hears, HeardLine, promised, answerTo, answerHearing}
 use Rattle.group_call.specs.declared.Stepped.{Stepped}
 use Rattle.group_call.proofs.Steps.{keeps-well-formed}
 use Rattle.group_call.proofs.Unheeded.{other-discarded}
-use Rattle.group_call.proofs.Merging.{ongoing-is, merged, refreshed, better-joined, not-better-discarded, same-refreshed}
+use Rattle.group_call.proofs.Merging.{ongoing-is, merged, better-joined, not-better-discarded, same-refreshed}
 use Rattle.demands.specs.SameCall.{Call, callOf, Announcing, InCall, Unsent}
 
 -- a line announces a call of the own group

@@ -19,3 +19,4 @@ pub mod Consequences
 pub mod GroupHeeds
 pub mod Varying
 pub mod PrivateHeeds
+pub mod Demands

@@ -1,18 +1,15 @@
 -- Demand 3: one cab ends in the best call that it knows of, so two cabs that know of the same calls end in the same one. Assumes nothing.
 use mathlib.Core.Path.{_≡_, refl, sym, ap, _∙_, subst}
 use mathlib.Core.Logic.{_⊎_, inl, inr, ⊎-elim}
-use mathlib.Core.List.{List, [], _∷_, List·Memᴰ, List·Memᴰ·head, List·Memᴰ·tail, List·Memᴰ·cases-cons, List·Memᴰ·not-nil}
+use mathlib.Core.List.{List, [], _∷_, List·Memᴰ·head, List·Memᴰ·tail, List·Memᴰ·cases-cons, List·Memᴰ·not-nil}
 use mathlib.Core.Bool.{Bool, true, false}
-use Prim.Native.Nat.{ℕ}
-use lib.Dec.{eqb}
-use borrow.Author.Tests.{eqb-true, eqb-false}
 use Rattle.call.specs.declared.Settings.{Settings}
 use Rattle.group_order.specs.Order.{isBetter}
 use Rattle.group_order.proofs.Order.{never-itself, not-better-chain, same-identifier}
 use Rattle.group_rows.specs.declared.states.GroupRecord.{GroupRecord}
 use Rattle.group_call.specs.Hearing.{ongoing, HeardLine, promised, answerHearing, hear, hearAll}
 use Rattle.group_call.proofs.Merging.{ongoing-is}
-use Rattle.demands.specs.SameCall.{Cab, Call, callOf, Announcing, Announced, Knows, InCall, Alike, SameSet, Together, Best, endOf, Silent, EndsInBest, EndTogether, BestCall, SameCall}
+use Rattle.demands.specs.SameCall.{Cab, Call, callOf, Announcing, Announced, Knows, InCall, Alike, SameSet, Best, endOf, Silent, BestCall, SameCall, AnyOrder}
 use Rattle.demands.proofs.HearingOne.{Brings, Heeded, heeded}
 
 -- ---- sets
@@ -119,3 +116,21 @@ same-call x y t =
     let here = ongoing-is (x .settings) (endOf promised x) (p .inCall .formed) (p .inCall .ongoing) in
     let other = ongoing-is (y .settings) (endOf promised y) (q .inCall .formed) (q .inCall .ongoing) in
     record { sameCall = call; sameRecord = here ∙ ap (λ (c : Call). ongoing (c .0) (c .1)) call ∙ sym other; first = p; second = q }
+
+-- two lists that announce the same calls leave a cab with the same record
+pub any-order : AnyOrder promised
+any-order s g xs ys is alike same =
+    same-call (cabOf s g xs) (cabOf s g ys)
+    (record {
+      oneGroup = refl;
+      first = is;
+      second = is;
+      alike = λ a b k l. alike a b (⊎-elim (λ z. z) (back a) k) (⊎-elim (λ z. z) (back b) l);
+      sameSet = record { there = there; back = back };
+    }) .sameRecord
+  where
+    there : (c : Call) → Knows (cabOf s g xs) c → Knows (cabOf s g ys) c
+    there c = ⊎-elim (λ e. inl e) (λ m. inr (same c .0 m))
+
+    back : (c : Call) → Knows (cabOf s g ys) c → Knows (cabOf s g xs) c
+    back c = ⊎-elim (λ e. inl e) (λ m. inr (same c .1 m))

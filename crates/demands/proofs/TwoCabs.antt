@@ -27,11 +27,11 @@ use Rattle.group_call.specs.Carried.{stoppedOf, runningAfter, carryOut}
 use Rattle.group_call.specs.Step.{stepOf, stepBuffer}
 use Rattle.group_call.specs.Hearing.{HeardLine, Build, promised, answerTo, hear, hearAll}
 use Rattle.demands.specs.MarkedCases.{ringing}
-use Rattle.demands.specs.SameCall.{Call, callOf, Announcing, Announced, Knows, InCall, Alike, SameSet, Together, endOf, SameCall}
+use Rattle.demands.specs.SameCall.{Call, callOf, Announcing, Announced, Knows, Alike, SameSet, Together, endOf, SameCall}
 use Rattle.demands.specs.TwoCabs.{basic, peril, emergency, elsewhere, basicLater, basicSaid, perilSaid, emergencySaid, elsewhereSaid, basicLaterSaid, cutShort, ringingSaid}
 use Rattle.demands.specs.TwoCabs.{firstCab, secondCab, NeverMerges, EndApart, hearsLater, hearsEarlier, AlikeNeeded, hearsNothing, hearsEmergency, SameSetNeeded}
 use Rattle.demands.proofs.HearingOne.{Brings, announced-one}
-use Rattle.demands.proofs.SameCall.{announced-split, same-call}
+use Rattle.demands.proofs.SameCall.{announced-split}
 
 -- ---- what the lines say
 

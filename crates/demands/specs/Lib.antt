@@ -13,3 +13,4 @@ pub mod SameCall
 pub mod TwoCabs
 pub mod OneAnswer
 pub mod Consequences
+pub mod Demands

@@ -1,6 +1,6 @@
 -- Demand 3: two cabs of one group that know of the same calls end in the same call, the best of them. Assumes nothing.
 use mathlib.Core.Path.{_≡_}
-use mathlib.Core.Logic.{_⊎_}
+use mathlib.Core.Logic.{_⊎_, _↔_}
 use mathlib.Core.List.{List, [], _∷_, List·Memᴰ}
 use mathlib.Core.Bool.{true, false}
 use Prim.Native.Nat.{ℕ}
@@ -136,3 +136,9 @@ BestCall b = (x : Cab) → InCall (x .settings) (x .stored) → Alike (Knows x) 
 -- a build brings any two cabs of one group that know of the same calls into the same call
 abbrev pub SameCall : Build → Type 0
 SameCall b = (x y : Cab) → Together x y → EndTogether b x y
+
+-- with a build, two lists of lines that announce the same calls to a cab leave it with the same record: order, repeats, unreadable lines and other traffic count for nothing
+abbrev pub AnyOrder : Build → Type 0
+AnyOrder b =
+    (s : Settings) (g : GroupRecord) (xs ys : List HeardLine) → InCall s g → Alike (Knows (record { settings = s; stored = g; lines = xs }))
+    → ((c : Call) → Announced s xs c ↔ Announced s ys c) → hearAll b s g xs ≡ hearAll b s g ys

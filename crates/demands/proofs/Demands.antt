@@ -1,0 +1,98 @@
+-- The three demands hold. Assumes nothing.
+use mathlib.Core.Path.{_∙_, ap}
+use Rattle.frame.specs.Line.{readLine}
+use Rattle.frame.proofs.ReadsItsLine.{reads-its-line}
+use Rattle.frame.proofs.OnlyLine.{line-is-the-only-one}
+use Rattle.demands.specs.Machines.{privateMachine, groupMachine}
+use Rattle.demands.specs.Demands.{NumbersGiven, RefusalsKeep, Demand1, OneLine, ByTheRows, Demand2, Demand3}
+use Rattle.demands.proofs.ExactlyWhen.{line-exactly-when, write-exactly-when, answer-exactly-when, step-exactly-when}
+use Rattle.demands.proofs.Choosing.{choose-number-exactly-when}
+use Rattle.demands.proofs.NothingChanges.{read-nothing-changes, write-nothing-changes, answer-nothing-changes, choose-nothing-changes, step-nothing-changes}
+use Rattle.demands.proofs.Machines.{private-carries-out, private-keeps-well-formed, private-sends-good, private-timers-agree, private-change-stops, private-spares-ran-out}
+use Rattle.demands.proofs.GroupMachine.{group-step-exactly-when, group-step-nothing-changes}
+use Rattle.demands.proofs.GroupMachine.{group-carries-out, group-keeps-well-formed, group-sends-good, group-timers-agree, group-change-stops, group-spares-ran-out}
+use Rattle.demands.proofs.Consequences.{private-known-rows, group-known-rows, private-every-row, group-every-row}
+use Rattle.demands.proofs.PrivateHeeds.{private-heeds, private-never-still}
+use Rattle.demands.proofs.GroupHeeds.{group-heeds, group-never-still}
+use Rattle.demands.proofs.Varying.{private-varies, group-varies}
+use Rattle.demands.proofs.SameCall.{best-call, same-call, any-order}
+
+-- ---- demand 1
+
+-- each number exactly when
+pub exactly-when : NumbersGiven
+exactly-when =
+    record {
+      ofLine = line-exactly-when;
+      ofWriting = write-exactly-when;
+      ofAnswering = answer-exactly-when;
+      ofChoosing = choose-number-exactly-when;
+      ofPrivateStep = step-exactly-when;
+      ofGroupStep = group-step-exactly-when;
+    }
+
+-- a refusal changes nothing
+pub nothing-changes : RefusalsKeep
+nothing-changes =
+    record {
+      byReading = read-nothing-changes;
+      byWriting = write-nothing-changes;
+      byAnswering = answer-nothing-changes;
+      byChoosing = choose-nothing-changes;
+      byPrivateStep = step-nothing-changes;
+      byGroupStep = group-step-nothing-changes;
+    }
+
+-- whatever comes in gets an answer
+pub demand-1 : Demand1
+demand-1 = record { numbers = exactly-when; keeps = nothing-changes }
+
+-- ---- demand 2
+
+-- one frame, one line, both ways
+pub one-line : OneLine
+one-line l m media = (line-is-the-only-one l m media, λ h. ap readLine (h .0) ∙ reads-its-line m media (h .1))
+
+-- the private call machine goes by its 29 rows
+pub private-by-the-rows : ByTheRows privateMachine 29
+private-by-the-rows =
+    record {
+      carriesOut = private-carries-out;
+      knownRows = private-known-rows;
+      everyRow = private-every-row;
+      keepsWellFormed = private-keeps-well-formed;
+      sendsGood = private-sends-good;
+      timersAgree = private-timers-agree;
+      changeStops = private-change-stops;
+      sparesRanOut = private-spares-ran-out;
+      heeds = private-heeds;
+      neverStill = private-never-still;
+      varies = private-varies;
+    }
+
+-- the group call machine goes by its eleven
+pub group-by-the-rows : ByTheRows groupMachine 11
+group-by-the-rows =
+    record {
+      carriesOut = group-carries-out;
+      knownRows = group-known-rows;
+      everyRow = group-every-row;
+      keepsWellFormed = group-keeps-well-formed;
+      sendsGood = group-sends-good;
+      timersAgree = group-timers-agree;
+      changeStops = group-change-stops;
+      sparesRanOut = group-spares-ran-out;
+      heeds = group-heeds;
+      neverStill = group-never-still;
+      varies = group-varies;
+    }
+
+-- every step gives what the rows say, and a good message has one line
+pub demand-2 : Demand2
+demand-2 = record { oneLine = one-line; privateRows = private-by-the-rows; groupRows = group-by-the-rows }
+
+-- ---- demand 3
+
+-- two cabs that know of the same calls end in the same one
+pub demand-3 : Demand3
+demand-3 = record { oneCab = best-call; twoCabs = same-call; anyOrder = any-order }

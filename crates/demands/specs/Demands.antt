@@ -1,0 +1,110 @@
+-- The three demands, each as one statement, to be read first. Every part says which sentence it is; the definitions that it cites stand in the files
+-- named by `use`, and behind them in the crates below. Assumes nothing.
+use mathlib.Core.Path.{_≡_}
+use mathlib.Core.Logic.{_↔_}
+use mathlib.Core.List.{List}
+use Prim.Native.Nat.{ℕ}
+use Rattle.frame.specs.Frame.{GoodFrame}
+use Rattle.frame.specs.Layout.{lineOf}
+use Rattle.frame.specs.Line.{reading, readLine, lineNumber}
+use Rattle.frame.specs.Writing.{writeNumber, writtenOf, bufferOf}
+use Rattle.frame.specs.declared.Media.{Media}
+use Rattle.frame.specs.declared.Message.{Message}
+use Rattle.log.specs.Answer.{answerOf, answerNumber, answerTold, answerBuffer}
+use Rattle.chooser.specs.Choice.{choiceNumber}
+use Rattle.group_call.specs.Hearing.{promised}
+use Rattle.demands.specs.ExactlyWhen.{GivenExactlyWhen, lineTable, writeTable, answerTable, choiceTable, StepExactlyWhen}
+use Rattle.demands.specs.NothingChanges.{NothingChanges, ReadNothingChanges, ChooseNothingChanges, StepNothingChanges}
+use Rattle.demands.specs.Machines.{Machine, CarriesOut, KeepsWellFormed, SendsGood, TimersAgree, ChangeStops, SparesRanOut, privateMachine, groupMachine}
+use Rattle.demands.specs.Consequences.{KnownRows, EveryRowTold, Heeds, NeverStill, Varies}
+use Rattle.demands.specs.SameCall.{BestCall, SameCall, AnyOrder}
+
+-- ---- Demand 1: whatever comes in gets an answer; what is bad gets its number, and nothing else happens
+
+-- each number has its exact condition and its place in the order
+pub record NumbersGiven : Type 0 where
+  -- a line: 1, 2, 3, 4, 5
+  pub ofLine : (l : List ℕ) → GivenExactlyWhen (lineNumber l) (lineTable l)
+  -- a frame to write: 5, 6
+  pub ofWriting : (m : Message) (media : Media) (out : List ℕ) → GivenExactlyWhen (writeNumber m media out) (writeTable m media out)
+  -- a log to answer: 6
+  pub ofAnswering : (log out : List ℕ) → GivenExactlyWhen (answerNumber log out) (answerTable log out)
+  -- two lines to choose between: the first line's number, the second's, 10
+  pub ofChoosing : (first second : List ℕ) → GivenExactlyWhen (choiceNumber first second) (choiceTable first second)
+  -- a step of the private call machine: 7, 9, then 5 or 8, then 6
+  pub ofPrivateStep : StepExactlyWhen privateMachine
+  -- a step of the group call machine: the same
+  pub ofGroupStep : StepExactlyWhen groupMachine
+
+-- a number that is not 0 leaves everything as it was: record, timers, and each byte of a lent buffer
+pub record RefusalsKeep : Type 0 where
+  -- the reader
+  pub byReading : ReadNothingChanges
+  -- the writer
+  pub byWriting : (m : Message) (media : Media) (out : List ℕ) → NothingChanges (lineOf m media) (writtenOf m media out) out (bufferOf m media out)
+  -- the answer to a log
+  pub byAnswering : (log out : List ℕ) → NothingChanges (answerOf log) (answerTold log out) out (answerBuffer log out)
+  -- the chooser
+  pub byChoosing : ChooseNothingChanges
+  -- a step of the private call machine
+  pub byPrivateStep : StepNothingChanges privateMachine
+  -- a step of the group call machine
+  pub byGroupStep : StepNothingChanges groupMachine
+
+-- both
+pub record Demand1 : Type 0 where
+  -- the numbers
+  pub numbers : NumbersGiven
+  -- and nothing else
+  pub keeps : RefusalsKeep
+
+-- ---- Demand 2: every step gives what the numbered rows say; a good message has one line, and no other line reads as it
+
+-- some bytes read as a frame exactly if the frame is good and they are its line
+abbrev pub OneLine : Type 0
+OneLine = (l : List ℕ) (m : Message) (media : Media) → (readLine l ≡ reading m media) ↔ ((l ≡ lineOf m media) × GoodFrame m media)
+
+-- a call machine whose rows are numbered up to the last
+pub record ByTheRows (M : Machine) (last : ℕ) : Type 0 where
+  -- row, next record, timers and line are those of the row that is met, from every record that is not refused
+  pub carriesOut : CarriesOut M
+  -- no row number but those of the list
+  pub knownRows : KnownRows M last
+  -- and each of them
+  pub everyRow : EveryRowTold M last
+  -- the next record is not refused either
+  pub keepsWellFormed : KeepsWellFormed M
+  -- no message of ours is out of range
+  pub sendsGood : SendsGood M
+  -- the timers that run are those that the commands leave
+  pub timersAgree : TimersAgree M
+  -- a change of state stops what is not started anew
+  pub changeStops : ChangeStops M
+  -- what just ran out is not stopped
+  pub sparesRanOut : SparesRanOut M
+  -- a build that discards every event is shut out
+  pub heeds : Heeds M
+  -- so is one that obeys a first event and then stands still
+  pub neverStill : NeverStill M
+  -- and one whose reply never varies
+  pub varies : Varies M
+
+-- lines, and both machines
+pub record Demand2 : Type 0 where
+  -- one frame, one line
+  pub oneLine : OneLine
+  -- R1 to R29
+  pub privateRows : ByTheRows privateMachine 29
+  -- G1 to G11
+  pub groupRows : ByTheRows groupMachine 11
+
+-- ---- Demand 3: two cabs of one group in S3 that know of the same calls end in the same call, the best of them
+
+-- what the contract of the group step allows does so
+pub record Demand3 : Type 0 where
+  -- one cab ends in the best call that it knows of
+  pub oneCab : BestCall promised
+  -- two cabs end in the same one
+  pub twoCabs : SameCall promised
+  -- order, repeats, unreadable lines and other traffic count for nothing
+  pub anyOrder : AnyOrder promised

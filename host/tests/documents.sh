@@ -23,6 +23,9 @@ public_functions() {
 # CRATE/LABEL for each must-fail edit.
 edits() { find crates -path '*/must-fail/*.edit' | sed 's|^crates/\([^/]*\)/must-fail/\(.*\)\.edit$|\1/\2|' | sort; }
 
+# Where the theorems of one answer stand.
+one_answer=crates/demands/proofs/OneAnswer.antt
+
 # What a document writes between backquotes.
 quoted() { grep -o '`[^`]*`' "$1" | tr -d '`' | sort -u; }
 
@@ -40,26 +43,34 @@ done
 verdict "docs/PROMISES.md has every public function" "$wrong"
 
 wrong=''
+for name in $(public_functions); do
+    path=$(echo "$name" | sed 's/::/.proofs./; s/::/./g')
+    theorem=$(sed -n "s/^use Rattle\.$path\.Reads as \(.*\)/\1-one/p" "$one_answer")
+    grep -q "^pub ${theorem:-none} : " "$one_answer" && grep -qF "One answer: \`$theorem\`" docs/PROMISES.md || wrong="$wrong $name"
+done
+verdict "every public function has its theorem of one answer" "$wrong"
+
+wrong=''
 for name in $(edits); do
     grep -qF "\`$name\`" docs/PROMISES.md || wrong="$wrong $name"
 done
 verdict "docs/PROMISES.md has every must-fail edit" "$wrong"
 
 wrong=''
-for page in docs/ROWS.md docs/PROMISES.md; do
+for page in docs/ROWS.md docs/PROMISES.md docs/DEMANDS.md; do
     for name in $(quoted "$page" | grep -E '^[a-z_]+/[a-z0-9_]+$'); do
         edits | grep -qx "$name" || wrong="$wrong $page:$name"
     done
 done
-verdict "every edit that docs/ROWS.md and docs/PROMISES.md name is there" "$wrong"
+verdict "every edit that docs/ROWS.md, docs/PROMISES.md and docs/DEMANDS.md name is there" "$wrong"
 
 wrong=''
-for page in docs/ROWS.md docs/PROMISES.md; do
+for page in docs/ROWS.md docs/PROMISES.md docs/DEMANDS.md; do
     for name in $(quoted "$page" | grep -E '^[A-Za-z][A-Za-z0-9_:·-]*$' | sed 's/.*:://'); do
         grep -rqwF -- "$name" crates .ci || wrong="$wrong $page:$name"
     done
 done
-verdict "every name that docs/ROWS.md and docs/PROMISES.md cite stands in a crate" "$wrong"
+verdict "every name that docs/ROWS.md, docs/PROMISES.md and docs/DEMANDS.md cite stands in a crate" "$wrong"
 
 wrong=''
 for page in README.md docs/*.md; do

@@ -163,7 +163,7 @@ module _ (s : Settings) (stored : GroupCall) (own : Media) (x : HeardLine) (good
         known = inr (subst (λ (c : Call). Brings s (x .line) c) (sym (ap callOf n)) m);
         oldNotBetter = ap (λ (h : GroupRecord). isBetter stored (h .call)) n ∙ asymmetric call stored better;
         broughtNotBetter = λ c k.
-        (λ j. isBetter (announced-one (x .line) c (call, media) (k .0) (m .0) j .0) (n j .call)) ∙ never-itself call;
+            (λ j. isBetter (announced-one (x .line) c (call, media) (k .0) (m .0) j .0) (n j .call)) ∙ never-itself call;
       }
 
   -- of the own call heard again, where it is alike, nothing is taken over

@@ -53,10 +53,10 @@ ended s [] g is alike =
     record {
       inCall = is;
       best =
-        record {
-          member = inl refl;
-          noneBetter = λ d k. ⊎-elim (λ e. ap (λ (c : Call). isBetter (c .0) (g .call)) e ∙ never-itself (g .call)) (λ m. absurd (List·Memᴰ·not-nil (m .0 .1))) k;
-        };
+          record {
+            member = inl refl;
+            noneBetter = λ d k. ⊎-elim (λ e. ap (λ (c : Call). isBetter (c .0) (g .call)) e ∙ never-itself (g .call)) (λ m. absurd (List·Memᴰ·not-nil (m .0 .1))) k;
+          };
       silent = tt;
     }
 ended s (x ∷ xs) g is alike =
@@ -65,17 +65,17 @@ ended s (x ∷ xs) g is alike =
     let rest = ended s xs (hear promised s g x) (h .inCall) (λ a b k l e. alike a b (knew-all a k) (knew-all b l) e) in
     let last = hearAll promised s g (x ∷ xs) .call in
     let later : (d : Call) → isBetter (d .0) (hear promised s g x .call) ≡ false → isBetter (d .0) last ≡ false =
-      λ d n. not-better-chain (d .0) (hear promised s g x .call) last n (rest .best .noneBetter (callOf (hear promised s g x)) (inl refl))
+    λ d n. not-better-chain (d .0) (hear promised s g x .call) last n (rest .best .noneBetter (callOf (hear promised s g x)) (inl refl))
     in
     record {
       inCall = rest .inCall;
       best =
-        record {
-          member = knew-all _ (rest .best .member);
-          noneBetter = λ d k.
-          ⊎-elim (λ e. later d (ap (λ (c : Call). isBetter (c .0) (hear promised s g x .call)) e ∙ h .oldNotBetter))
-          (λ m. ⊎-elim (λ b. later d (h .broughtNotBetter d b)) (λ n. rest .best .noneBetter d (inr n)) (announced-split s x xs d m)) k;
-        };
+          record {
+            member = knew-all _ (rest .best .member);
+            noneBetter = λ d k.
+                ⊎-elim (λ e. later d (ap (λ (c : Call). isBetter (c .0) (hear promised s g x .call)) e ∙ h .oldNotBetter))
+                (λ m. ⊎-elim (λ b. later d (h .broughtNotBetter d b)) (λ n. rest .best .noneBetter d (inr n)) (announced-split s x xs d m)) k;
+          };
       silent = (h .silent, rest .silent);
     }
 

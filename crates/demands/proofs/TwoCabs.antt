@@ -1,4 +1,4 @@
--- Demand 3 applies to two cabs, a build that never merges fails it, and no premise can go. Assumes nothing.
+-- Two cabs meet the premises of demand 3, no build that stays in its call meets the demand, and no premise can go. Assumes nothing.
 use mathlib.Core.Path.{_≡_, refl, sym, ap, _∙_, subst}
 use mathlib.Core.Logic.{_⊎_, inl, inr, ⊎-elim}
 use mathlib.Core.List.{List, [], _∷_, List·Memᴰ·head, List·Memᴰ·tail, List·Memᴰ·not-nil}
@@ -142,10 +142,10 @@ cabs-together =
       second = record { settings = refl; formed = refl; ongoing = refl };
       alike = λ a b k l e. three-alike a b (⊎-elim (first-knows a) (second-knows a) k) (⊎-elim (first-knows b) (second-knows b) l) e;
       sameSet =
-        record {
-          there = λ c k. second-knows-all c (first-knows c k);
-          back = λ c k. first-knows-all c (second-knows c k);
-        };
+          record {
+            there = λ c k. second-knows-all c (first-knows c k);
+            back = λ c k. first-knows-all c (second-knows c k);
+          };
     }
 
 -- and they end in the emergency, step by step as the demand says
@@ -169,7 +169,7 @@ stays-hearing-all b never s (x ∷ xs) g e =
     let k = stays-hearing b never s g (readLine (x .line) .read) (readLine (x .line) .media) (x .verdicts) (x .lent) e in
     stays-hearing-all b never s xs (hear b s g x) (k .0) ∙ k .1
 
--- it fails demand 3: the one cab stays in call 16, the other in call 17
+-- with it the one cab stays in call 16, the other in call 17
 pub never-merging-fails : (b : Build) → NeverMerges b → SameCall b → ⊥
 never-merging-fails b never demand =
     let stays = stays-hearing-all b never in
@@ -184,11 +184,11 @@ both-known : SameSet hearsLater hearsEarlier
 both-known =
     record {
       there = λ c k.
-      ⊎-elim (λ e. subst (Knows hearsEarlier) (sym e) (inr ((basicSaid, List·Memᴰ·head refl, lines-said .0), refl)))
-      (by-line (hearsLater .settings) c _ _ (λ b. inl (announced-one (basicLaterSaid .line) c basicLater (b .0) (lines-said .4))) (by-none (hearsLater .settings) c)) k;
+          ⊎-elim (λ e. subst (Knows hearsEarlier) (sym e) (inr ((basicSaid, List·Memᴰ·head refl, lines-said .0), refl)))
+          (by-line (hearsLater .settings) c _ _ (λ b. inl (announced-one (basicLaterSaid .line) c basicLater (b .0) (lines-said .4))) (by-none (hearsLater .settings) c)) k;
       back = λ c k.
-      ⊎-elim (λ e. subst (Knows hearsLater) (sym e) (inr ((basicLaterSaid, List·Memᴰ·head refl, lines-said .4), refl)))
-      (by-line (hearsEarlier .settings) c _ _ (λ b. inl (announced-one (basicSaid .line) c basic (b .0) (lines-said .0))) (by-none (hearsEarlier .settings) c)) k;
+          ⊎-elim (λ e. subst (Knows hearsLater) (sym e) (inr ((basicLaterSaid, List·Memᴰ·head refl, lines-said .4), refl)))
+          (by-line (hearsEarlier .settings) c _ _ (λ b. inl (announced-one (basicSaid .line) c basic (b .0) (lines-said .0))) (by-none (hearsEarlier .settings) c)) k;
     }
 
 -- what either of the cabs in call 16 knows of is one of the three

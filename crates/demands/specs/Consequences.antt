@@ -43,7 +43,7 @@ abbrev pub recordAfter : (M : Machine) → Settings → M .Stored → List (Inpu
 recordAfter M s p [] = p
 recordAfter M s p (x ∷ inputs) = recordAfter M s (M .step s p (x .0) (x .1) .next) inputs
 
--- after any steps, refused or not, some input is heeded; this shuts out a build that obeys the first events and then stands still
+-- after any steps, refused or not, some input is heeded; this shuts out a build that heeds its first events and nothing after them
 abbrev pub NeverStill : Machine → Type 0
 NeverStill M =
     (s : Settings) (p : M .Stored) (inputs : List (Input × List ℕ)) → settingsGood s ≡ true → M .wellFormed s p ≡ true

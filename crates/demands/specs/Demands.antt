@@ -29,7 +29,7 @@ pub record NumbersGiven : Type 0 where
   pub ofWriting : (m : Message) (media : Media) (out : List ℕ) → GivenExactlyWhen (writeNumber m media out) (writeTable m media out)
   -- a log to answer: 6
   pub ofAnswering : (log out : List ℕ) → GivenExactlyWhen (answerNumber log out) (answerTable log out)
-  -- two lines to choose between: the first line's number, the second's, 10
+  -- two lines to choose between: a number of the first, else of the second, else 10
   pub ofChoosing : (first second : List ℕ) → GivenExactlyWhen (choiceNumber first second) (choiceTable first second)
   -- a step of the private call machine: 7, 9, then 5 or 8, then 6
   pub ofPrivateStep : StepExactlyWhen privateMachine
@@ -84,7 +84,7 @@ pub record ByTheRows (M : Machine) (last : ℕ) : Type 0 where
   pub sparesRanOut : SparesRanOut M
   -- a build that discards every event is shut out
   pub heeds : Heeds M
-  -- so is one that obeys a first event and then stands still
+  -- so is one that heeds a first event and nothing after it
   pub neverStill : NeverStill M
   -- and one whose reply never varies
   pub varies : Varies M

@@ -1,8 +1,8 @@
 -- The rows there are, no standstill after any steps, and answers that vary, proved of both call machines. Assumes nothing.
 use mathlib.Core.Path.{_≡_, refl, sym, _∙_, subst}
-use mathlib.Core.Logic.{⊎-elim}
+use mathlib.Core.Logic.{_⊎_, ⊎-elim}
 use mathlib.Core.List.{List, [], _∷_}
-use mathlib.Core.Bool.{Bool, true, false, cond, _&&_, _||_, false≢true}
+use mathlib.Core.Bool.{Bool, true, false, cond, _&&_, _||_, true≢false, false≢true}
 use Prim.Native.Nat.{ℕ, zero, suc, _≤_}
 use native.Mathlib.Omega.{arith}
 use lib.Dec.{leb, eqb}
@@ -22,8 +22,8 @@ use Rattle.group_rows.specs.declared.states.State.{State}
 use Rattle.group_rows.specs.declared.causes.Cause as GroupCause
 use Rattle.group_rows.specs.declared.causes.Facts as GroupFacts
 use Rattle.group_rows.specs.declared.rows.Row.the-variants as GroupRow
-use Rattle.demands.specs.Machines.{Answer, Machine, CarriesOut, KeepsWellFormed, privateMachine, groupMachine}
-use Rattle.demands.specs.ExactlyWhen.{ExactlyWhen, StepExactlyWhen}
+use Rattle.demands.specs.Machines.{Answer, Machine, CarriesOut, RowsHold, KeepsWellFormed, privateMachine, groupMachine}
+use Rattle.demands.specs.ExactlyWhen.{ExactlyWhen, SettingOut, Unformed, FieldOut, ArgumentOut, StepRoomless, StepExactlyWhen}
 use Rattle.demands.specs.NothingChanges.{StepNothingChanges}
 use Rattle.demands.specs.RowPlays.{Play, play, lent, AllComeOut, plays}
 use Rattle.demands.specs.GroupPlays.{groupPlays}
@@ -35,6 +35,20 @@ use Rattle.demands.proofs.Machines.{private-carries-out}
 use Rattle.demands.proofs.GroupMachine.{group-carries-out, group-step-nothing-changes, group-step-exactly-when}
 use Rattle.demands.proofs.RowPlays.{plays-come-out}
 use Rattle.demands.proofs.GroupPlays.{group-plays-come-out}
+
+-- ---- from every record
+
+-- where nothing is refused and there is room the number is 0, and then the row is carried out
+pub rows-hold : (M : Machine) → StepExactlyWhen M → CarriesOut M → RowsHold M
+unfolding ExactlyWhen
+rows-hold M told carries s p i out t room = carries s p i out (told s p i out .exactly .1 .1 .1 .1 .1 .1 passed)
+  where
+    good : {b : Bool} → b ≡ true → b ≡ false → ⊥
+    good e f = true≢false (sym e ∙ f)
+
+    passed : ((((Unit {0} × (SettingOut s → ⊥)) × (Unformed M s p → ⊥)) × (FieldOut i → ⊥)) × (ArgumentOut s i ⊎ M .RefusedByRow s p i → ⊥))
+        × (StepRoomless M s p i out → ⊥)
+    passed = (((((tt, good (t .settings)), good (t .formed)), good (t .message)), ⊎-elim (good (t .arguments)) (t .row)), λ h. omega (arith, h, room))
 
 -- ---- no other row
 

@@ -11,7 +11,7 @@ use Rattle.demands.proofs.NothingChanges.{read-nothing-changes, write-n
 use Rattle.demands.proofs.Machines.{private-carries-out, private-keeps-well-formed, private-sends-good, private-timers-agree, private-change-stops, private-spares-ran-out}
 use Rattle.demands.proofs.GroupMachine.{group-step-exactly-when, group-step-nothing-changes}
 use Rattle.demands.proofs.GroupMachine.{group-carries-out, group-keeps-well-formed, group-sends-good, group-timers-agree, group-change-stops, group-spares-ran-out}
-use Rattle.demands.proofs.Consequences.{private-known-rows, group-known-rows, private-every-row, group-every-row}
+use Rattle.demands.proofs.Consequences.{rows-hold, private-known-rows, group-known-rows, private-every-row, group-every-row}
 use Rattle.demands.proofs.PrivateHeeds.{private-heeds, private-never-still}
 use Rattle.demands.proofs.GroupHeeds.{group-heeds, group-never-still}
 use Rattle.demands.proofs.Varying.{private-varies, group-varies}
@@ -57,6 +57,7 @@ one-line l m media = (line-is-the-only-one l m media, λ h. ap readLine (h .0) �
 pub private-by-the-rows : ByTheRows privateMachine 29
 private-by-the-rows =
     record {
+      rowsHold = rows-hold privateMachine step-exactly-when private-carries-out;
       carriesOut = private-carries-out;
       knownRows = private-known-rows;
       everyRow = private-every-row;
@@ -74,6 +75,7 @@ private-by-the-rows =
 pub group-by-the-rows : ByTheRows groupMachine 11
 group-by-the-rows =
     record {
+      rowsHold = rows-hold groupMachine group-step-exactly-when group-carries-out;
       carriesOut = group-carries-out;
       knownRows = group-known-rows;
       everyRow = group-every-row;

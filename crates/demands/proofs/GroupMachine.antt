@@ -40,9 +40,9 @@ group-keeps-well-formed = keeps-well-formed
 
 -- what it sends is in range
 pub group-sends-good : SendsGood groupMachine
-group-sends-good s g i h w n a f m e =
+group-sends-good s g i t m e =
     subst (λ (x : Send). SentGood x (doneOf s g i .next .media)) e
-    (carried-sends-good s g i (record { settings = h; formed = w; message = n; arguments = a }))
+    (carried-sends-good s g i (record { settings = t .settings; formed = t .formed; message = t .message; arguments = t .arguments }))
 
 -- whether a timer runs afterwards
 running-one : (was stopped out started : Timers) (t : GroupTimer)

@@ -26,9 +26,9 @@ private-keeps-well-formed = keeps-well-formed
 
 -- what it sends is in range
 pub private-sends-good : SendsGood privateMachine
-private-sends-good s p i g w h a f m e =
+private-sends-good s p i t m e =
     subst (λ (x : Send). SentGood x (doneOf s p i .next .call .media)) e
-    (carried-sends-good s p i (record { settings = g; formed = w; message = h; arguments = a }))
+    (carried-sends-good s p i (record { settings = t .settings; formed = t .formed; message = t .message; arguments = t .arguments }))
 
 -- whether a timer runs afterwards
 running-one : (was stopped out started : Timers) (t : PrivateTimer)

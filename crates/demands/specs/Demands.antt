@@ -15,7 +15,7 @@ use Rattle.chooser.specs.Choice.{choiceNumber}
 use Rattle.group_call.specs.Hearing.{promised}
 use Rattle.demands.specs.ExactlyWhen.{GivenExactlyWhen, lineTable, writeTable, answerTable, choiceTable, StepExactlyWhen}
 use Rattle.demands.specs.NothingChanges.{NothingChanges, ReadNothingChanges, ChooseNothingChanges, StepNothingChanges}
-use Rattle.demands.specs.Machines.{Machine, CarriesOut, KeepsWellFormed, SendsGood, TimersAgree, ChangeStops, SparesRanOut, privateMachine, groupMachine}
+use Rattle.demands.specs.Machines.{Machine, RowsHold, CarriesOut, KeepsWellFormed, SendsGood, TimersAgree, ChangeStops, SparesRanOut, privateMachine, groupMachine}
 use Rattle.demands.specs.Consequences.{KnownRows, EveryRowTold, Heeds, NeverStill, Varies}
 use Rattle.demands.specs.SameCall.{BestCall, SameCall, AnyOrder}
 
@@ -66,7 +66,9 @@ OneLine = (l : List ℕ) (m : Message) (media : Media) → (readLine l ≡ readi
 
 -- a call machine whose rows are numbered up to the last
 pub record ByTheRows (M : Machine) (last : ℕ) : Type 0 where
-  -- row, next record, timers and line are those of the row that is met, from every record that is not refused
+  -- row, next record, timers and line are those of the row that is met, from every well-formed record
+  pub rowsHold : RowsHold M
+  -- and in every step that has number 0
   pub carriesOut : CarriesOut M
   -- no row number but those of the list
   pub knownRows : KnownRows M last

@@ -107,11 +107,31 @@ IsDiscarded M s p i out = IsRefused M 0 s p i out
 
 -- ---- what is asked of the steps of a machine
 
--- a step that is not refused answers as the row that is met says: row, next record, timers to stop, then to start, and its line at the front of the buffer
+-- nothing ahead of sending is refused, be it with 7, 9, 5 or 8
+pub record Unrefused (M : Machine) (s : Settings) (p : M .Stored) (i : Input) : Type 0 where
+  -- no 7
+  pub settings : settingsGood s ≡ true
+  -- no 9
+  pub formed : M .wellFormed s p ≡ true
+  -- no 5
+  pub message : heardGood (i .event) (i .media) ≡ true
+  -- no 8
+  pub arguments : argumentsGood s (i .event) (i .media) ≡ true
+  -- nor the 8 of a row
+  pub row : M .RefusedByRow s p i → ⊥
+
+-- an answer as the row that is met says: row, next record, timers to stop, then to start, and its line at the front of the buffer
+abbrev pub AnswersByRow : (M : Machine) → Settings → M .Stored → Input → List ℕ → Type 0
+AnswersByRow M s p i out = (M .step s p i out ≡ M .carried s p i) × (M .buffer s p i out ≡ atFront (lineToSend M s p i) out)
+
+-- a step with number 0 answers so
 abbrev pub CarriesOut : Machine → Type 0
-CarriesOut M =
-    (s : Settings) (p : M .Stored) (i : Input) (out : List ℕ) → M .step s p i out .number ≡ 0
-    → (M .step s p i out ≡ M .carried s p i) × (M .buffer s p i out ≡ atFront (lineToSend M s p i) out)
+CarriesOut M = (s : Settings) (p : M .Stored) (i : Input) (out : List ℕ) → M .step s p i out .number ≡ 0 → AnswersByRow M s p i out
+
+-- so does every step from good settings and a well-formed record whose input is not refused and whose line has room
+abbrev pub RowsHold : Machine → Type 0
+RowsHold M =
+    (s : Settings) (p : M .Stored) (i : Input) (out : List ℕ) → Unrefused M s p i → length (lineToSend M s p i) ≤ length out → AnswersByRow M s p i out
 
 -- from good settings and a well-formed record, whatever the input and the buffer, the next record is well formed
 abbrev pub KeepsWellFormed : Machine → Type 0
@@ -119,12 +139,10 @@ KeepsWellFormed M =
     (s : Settings) (p : M .Stored) (i : Input) (out : List ℕ) → settingsGood s ≡ true → M .wellFormed s p ≡ true
     → M .wellFormed s (M .step s p i out .next) ≡ true
 
--- where nothing ahead of sending is refused, that is neither 7, 9, 5 nor 8, the message that is sent is in range
+-- where nothing ahead of sending is refused, the message that is sent is in range
 abbrev pub SendsGood : Machine → Type 0
 SendsGood M =
-    (s : Settings) (p : M .Stored) (i : Input) → settingsGood s ≡ true → M .wellFormed s p ≡ true → heardGood (i .event) (i .media) ≡ true
-    → argumentsGood s (i .event) (i .media) ≡ true → (M .RefusedByRow s p i → ⊥)
-    → (m : Message) → M .sent s p i ≡ Send.Message m → inRange m (M .media s p i) ≡ true
+    (s : Settings) (p : M .Stored) (i : Input) → Unrefused M s p i → (m : Message) → M .sent s p i ≡ Send.Message m → inRange m (M .media s p i) ≡ true
 
 -- a timer runs after a step that is not refused exactly if it was started, or ran before and was neither stopped nor ran out
 abbrev pub TimersAgree : Machine → Type 0

@@ -1,4 +1,4 @@
--- The rows there are, no standstill after any steps, and answers that vary, proved of both call machines. Assumes nothing.
+-- Rows hold from every record; each row is told and no other; where some input is always heeded there is no standstill. Assumes nothing.
 use mathlib.Core.Path.{_≡_, refl, sym, _∙_, subst}
 use mathlib.Core.Logic.{_⊎_, ⊎-elim}
 use mathlib.Core.List.{List, [], _∷_}
@@ -28,7 +28,7 @@ use Rattle.demands.specs.NothingChanges.{StepNothingChanges}
 use Rattle.demands.specs.RowPlays.{Play, play, lent, AllComeOut, plays}
 use Rattle.demands.specs.GroupPlays.{groupPlays}
 use Rattle.demands.specs.Consequences.{KnownRows, RowTold, EveryRowTold, Heeds, NeverStill}
-use Rattle.demands.proofs.MarkedCases.{below, at}
+use Rattle.demands.proofs.Tables.{below, at}
 use Rattle.demands.proofs.NothingChanges.{step-nothing-changes}
 use Rattle.demands.proofs.ExactlyWhen.{step-exactly-when}
 use Rattle.demands.proofs.Machines.{private-carries-out}

@@ -1,13 +1,15 @@
 -- The three demands hold. Assumes nothing.
-use mathlib.Core.Path.{_∙_, ap}
+use mathlib.Core.Path.{sym, ap, _∙_, subst}
 use Rattle.frame.specs.Line.{readLine}
 use Rattle.frame.proofs.ReadsItsLine.{reads-its-line}
 use Rattle.frame.proofs.OnlyLine.{line-is-the-only-one}
+use Rattle.group_call.specs.Hearing.{Build, promised}
 use Rattle.demands.specs.Machines.{privateMachine, groupMachine}
 use Rattle.demands.specs.Demands.{NumbersGiven, RefusalsKeep, Demand1, OneLine, ByTheRows, Demand2, Demand3}
-use Rattle.demands.proofs.ExactlyWhen.{line-exactly-when, write-exactly-when, answer-exactly-when, step-exactly-when}
+use Rattle.demands.specs.SameCall.{KeepsContract, BestCall, SameCall, AnyOrder}
+use Rattle.demands.proofs.ExactlyWhen.{line-exactly-when, read-exactly-when, write-exactly-when, answer-exactly-when, step-exactly-when}
 use Rattle.demands.proofs.Choosing.{choose-number-exactly-when}
-use Rattle.demands.proofs.NothingChanges.{read-nothing-changes, write-nothing-changes, answer-nothing-changes, choose-nothing-changes, step-nothing-changes}
+use Rattle.demands.proofs.NothingChanges.{read-nothing-changes, write-nothing-changes, write-sent-nothing-changes, answer-nothing-changes, choose-nothing-changes, step-nothing-changes}
 use Rattle.demands.proofs.Machines.{private-carries-out, private-keeps-well-formed, private-sends-good, private-timers-agree, private-change-stops, private-spares-ran-out}
 use Rattle.demands.proofs.GroupMachine.{group-step-exactly-when, group-step-nothing-changes}
 use Rattle.demands.proofs.GroupMachine.{group-carries-out, group-keeps-well-formed, group-sends-good, group-timers-agree, group-change-stops, group-spares-ran-out}
@@ -15,6 +17,7 @@ use Rattle.demands.proofs.Consequences.{rows-hold, private-known-rows, 
 use Rattle.demands.proofs.PrivateHeeds.{private-heeds, private-never-still}
 use Rattle.demands.proofs.GroupHeeds.{group-heeds, group-never-still}
 use Rattle.demands.proofs.Varying.{private-varies, group-varies}
+use Rattle.demands.proofs.Builds.{private-shuts-out, group-shuts-out}
 use Rattle.demands.proofs.SameCall.{best-call, same-call, any-order}
 
 -- ---- demand 1
@@ -24,6 +27,7 @@ pub exactly-when : NumbersGiven
 exactly-when =
     record {
       ofLine = line-exactly-when;
+      ofReading = read-exactly-when;
       ofWriting = write-exactly-when;
       ofAnswering = answer-exactly-when;
       ofChoosing = choose-number-exactly-when;
@@ -37,6 +41,7 @@ nothing-changes =
     record {
       byReading = read-nothing-changes;
       byWriting = write-nothing-changes;
+      bySending = write-sent-nothing-changes;
       byAnswering = answer-nothing-changes;
       byChoosing = choose-nothing-changes;
       byPrivateStep = step-nothing-changes;
@@ -91,10 +96,21 @@ group-by-the-rows =
 
 -- every step gives what the rows say, and a good message has one line
 pub demand-2 : Demand2
-demand-2 = record { oneLine = one-line; privateRows = private-by-the-rows; groupRows = group-by-the-rows }
+demand-2 =
+    record {
+      oneLine = one-line;
+      privateRows = private-by-the-rows;
+      groupRows = group-by-the-rows;
+      privateShutsOut = private-shuts-out;
+      groupShutsOut = group-shuts-out;
+    }
 
 -- ---- demand 3
 
+-- what holds of what is promised holds of every build that keeps the contract
+kept : (P : Build → Type 0) → P promised → (b : Build) → KeepsContract b → P b
+kept P holds b keeps = subst P (sym (λ j s g i out. keeps s g i out j)) holds
+
 -- two cabs that know of the same calls end in the same one
 pub demand-3 : Demand3
-demand-3 = record { oneCab = best-call; twoCabs = same-call; anyOrder = any-order }
+demand-3 = record { oneCab = kept BestCall best-call; twoCabs = kept SameCall same-call; anyOrder = kept AnyOrder any-order }

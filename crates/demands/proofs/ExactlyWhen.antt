@@ -14,12 +14,13 @@ use Rattle.frame.specs.Digits.{isDigit, allDigits}
 use Rattle.frame.specs.Range.{within}
 use Rattle.frame.specs.Frame.{inRange}
 use Rattle.frame.specs.Layout.{digitsOf, lineOf}
-use Rattle.frame.specs.Line.{count, kindAt, unended, undigital, unkind, misfit, unranged, refusalOf, lineNumber}
-use Rattle.frame.specs.Writing.{writeNumber}
+use Rattle.frame.specs.Line.{count, kindAt, unended, undigital, unkind, misfit, unranged, refusalOf, numberOf, readLine, lineNumber}
+use Rattle.frame.specs.Writing.{writeNumber, writtenOf}
 use Rattle.frame.specs.declared.Media.{Media}
 use Rattle.frame.specs.declared.Message.{Message}
 use Rattle.frame.proofs.Judged.{not-all}
-use Rattle.log.specs.Answer.{answerOf, answerNumber}
+use Rattle.frame.proofs.OnlyLine.{number-read}
+use Rattle.log.specs.Answer.{answerOf, answerNumber, answerTold}
 use Rattle.call.specs.Settings.{settingsGood}
 use Rattle.call.specs.Request.{requestOf}
 use Rattle.call.specs.Numbers.{heardGood, argumentsGood}
@@ -152,9 +153,13 @@ line-exactly-when l = table-exactly rows refl right
     right =
         (λ b. unended-reflects l, (λ b. undigital-reflects l, (λ b. unkind-reflects l, (λ b. misfit-reflects l (b .1), (λ b. false-reflects _, tt)))))
 
+-- the reader: the same
+pub read-exactly-when : (l : List ℕ) → GivenExactlyWhen (numberOf (readLine l .read)) (lineTable l)
+read-exactly-when l = subst (λ (n : ℕ). GivenExactlyWhen n (lineTable l)) (sym (number-read l)) (line-exactly-when l)
+
 -- the writer: 5, then 6
-pub write-exactly-when : (m : Message) (media : Media) (out : List ℕ) → GivenExactlyWhen (writeNumber m media out) (writeTable m media out)
-unfolding writeNumber
+pub write-exactly-when : (m : Message) (media : Media) (out : List ℕ) → GivenExactlyWhen (writtenOf m media out .number) (writeTable m media out)
+unfolding writtenOf writeNumber
 write-exactly-when m media out = table-exactly rows refl right
   where
     rows : List Row
@@ -166,8 +171,8 @@ write-exactly-when m media out = table-exactly rows refl right
     right = (λ b. false-reflects (inRange m media), (λ b. ltb-reflects (length out) (length (lineOf m media)), tt))
 
 -- the answer to a log: 6
-pub answer-exactly-when : (log out : List ℕ) → GivenExactlyWhen (answerNumber log out) (answerTable log out)
-unfolding answerNumber
+pub answer-exactly-when : (log out : List ℕ) → GivenExactlyWhen (answerTold log out .number) (answerTable log out)
+unfolding answerTold answerNumber
 answer-exactly-when log out = table-exactly rows refl right
   where
     rows : List Row
@@ -176,7 +181,7 @@ answer-exactly-when log out = table-exactly rows refl right
     right : Right (Unit {0}) rows
     right = (λ b. ltb-reflects (length out) (length (answerOf log)), tt)
 
--- ---- a step: 7, 9, then 5 or 8, then 6
+-- ---- a step: 7, then 9, then 5 or 8, and 6 last
 
 -- its tests in their order, by whether the row refuses
 abbrev pub machineTests : (M : Machine) → Settings → M .Stored → Input → List ℕ → Bool → List (ℕ × Bool)

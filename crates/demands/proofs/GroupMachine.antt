@@ -78,7 +78,7 @@ early-reflects s g i =
     and-reflects (eqb (rowNumber (rowOf s g (i .event))) 9) (not (isLater (announcedOf s (i .event) .call) (g .call))) (ninth-reflects s g i)
     (not-above (g .call .«last_change») (announcedOf s (i .event) .call .«last_change»))
 
--- a step: 7, 9, then 5 or 8, then 6
+-- a step: 7, then 9, then 5 or 8, and 6 last
 pub group-step-exactly-when : StepExactlyWhen groupMachine
 group-step-exactly-when =
     machine-exactly-when groupMachine (λ s g i. changeTooEarly s g (i .event) (rowOf s g (i .event))) early-reflects

@@ -40,7 +40,7 @@ abbrev pub Brings : Settings → List ℕ → Call → Type 0
 Brings s line c = Announcing line c × (c .0 .group ≡ s .«own_group»)
 
 -- what a line does to a cab in a call: to its record g, with the answer and the buffer that it gets
-pub record Heeded (s : Settings) (g : GroupRecord) (x : HeardLine) (answer : Stepped × List ℕ) : Type 0 where
+pub record AfterLine (s : Settings) (g : GroupRecord) (x : HeardLine) (answer : Stepped × List ℕ) : Type 0 where
   -- the cab is still in a call
   pub inCall : InCall s (answer .0 .next)
   -- the answer is the line's number, and nothing is sent
@@ -121,7 +121,7 @@ module _ (s : Settings) (stored : GroupCall) (own : Media) (x : HeardLine) (good
 
   -- a line that leaves the record as it was, and brings nothing better
   keeps : (answer : Stepped × List ℕ) → answer .0 .next ≡ g → Unsent x answer
-      → ((c : Call) → Brings s (x .line) c → isBetter (c .0) stored ≡ false) → Heeded s g x answer
+      → ((c : Call) → Brings s (x .line) c → isBetter (c .0) stored ≡ false) → AfterLine s g x answer
   keeps answer e unsent worse =
       record {
         inCall = subst (λ (h : GroupRecord). InCall s h) (sym e) (record { settings = good; formed = formed; ongoing = refl });
@@ -144,7 +144,7 @@ module _ (s : Settings) (stored : GroupCall) (own : Media) (x : HeardLine) (good
 
   -- a message that brings nothing
   unheeded : (m : Message) (media : Media) → readLine (x .line) ≡ reading m media → ownMessage (s .«own_group») m ≡ false
-      → Heeded s g x (promised s g (inputOf (Event.Message m) media (x .verdicts)) (x .lent))
+      → AfterLine s g x (promised s g (inputOf (Event.Message m) media (x .verdicts)) (x .lent))
   unfolding ownRead
   unheeded m media e f =
       let ranged = line-is-the-only-one (x .line) m media e .1 .ranged in
@@ -154,7 +154,7 @@ module _ (s : Settings) (stored : GroupCall) (own : Media) (x : HeardLine) (good
 
   -- a call that the line brings is joined
   joins : (call : GroupCall) (media : Media) (answer : Stepped × List ℕ) → answer .0 ≡ merged call media → Unsent x answer
-      → wellFormed s (answer .0 .next) ≡ true → Brings s (x .line) (call, media) → isBetter call stored ≡ true → Heeded s g x answer
+      → wellFormed s (answer .0 .next) ≡ true → Brings s (x .line) (call, media) → isBetter call stored ≡ true → AfterLine s g x answer
   joins call media answer e unsent w m better =
       let n : answer .0 .next ≡ ongoing call media = ap (λ (a : Stepped). a .next) e in
       record {
@@ -177,10 +177,10 @@ module _ (s : Settings) (stored : GroupCall) (own : Media) (x : HeardLine) (good
   AlikeBrought = (c : Call) → Brings s (x .line) c → c .0 .identifier ≡ stored .identifier → c ≡ (stored, own)
 
   -- an announcement of the own group
-  heeded-own : (call : GroupCall) (confirm : ℕ) (media : Media) → readLine (x .line) ≡ reading (Announcement call confirm) media
+  after-own : (call : GroupCall) (confirm : ℕ) (media : Media) → readLine (x .line) ≡ reading (Announcement call confirm) media
       → eqb (call .group) (s .«own_group») ≡ true → AlikeBrought
-      → Heeded s g x (promised s g (hears call confirm media (x .verdicts)) (x .lent))
-  heeded-own call confirm media e o alike = go (sameIdentifier call stored) (isBetter call stored) refl refl
+      → AfterLine s g x (promised s g (hears call confirm media (x .verdicts)) (x .lent))
+  after-own call confirm media e o alike = go (sameIdentifier call stored) (isBetter call stored) refl refl
     where
       ranged : inRange (Announcement call confirm) media ≡ true
       ranged = line-is-the-only-one (x .line) (Announcement call confirm) media e .1 .ranged
@@ -195,7 +195,7 @@ module _ (s : Settings) (stored : GroupCall) (own : Media) (x : HeardLine) (good
       sent {answer} {a} = unsent-step (Announcement call confirm) media e answer a
 
       go : (same better : Bool) → sameIdentifier call stored ≡ same → isBetter call stored ≡ better
-          → Heeded s g x (promised s g (hears call confirm media (x .verdicts)) (x .lent))
+          → AfterLine s g x (promised s g (hears call confirm media (x .verdicts)) (x .lent))
       go true better p q =
           let d = same-refreshed s stored own call confirm media (x .verdicts) (x .lent) good formed ranged o p in
           let is = alike (call, media) brought (eqb-true (call .identifier) (stored .identifier) p) in
@@ -211,34 +211,34 @@ module _ (s : Settings) (stored : GroupCall) (own : Media) (x : HeardLine) (good
           (λ c m. ap (λ (k : Call). isBetter (k .0) stored) (only c m) ∙ q)
 
   -- whatever message was read
-  heeded-message : AlikeBrought → (m : Message) (media : Media) → readLine (x .line) ≡ reading m media
-      → Heeded s g x (promised s g (inputOf (Event.Message m) media (x .verdicts)) (x .lent))
+  after-message : AlikeBrought → (m : Message) (media : Media) → readLine (x .line) ≡ reading m media
+      → AfterLine s g x (promised s g (inputOf (Event.Message m) media (x .verdicts)) (x .lent))
   unfolding ownMessage
-  heeded-message alike (SetupRequest p t) media e = unheeded (SetupRequest p t) media e refl
-  heeded-message alike (Ringing p) media e = unheeded (Ringing p) media e refl
-  heeded-message alike (Accept p) media e = unheeded (Accept p) media e refl
-  heeded-message alike (Reject p reason) media e = unheeded (Reject p reason) media e refl
-  heeded-message alike (Release p) media e = unheeded (Release p) media e refl
-  heeded-message alike (ReleaseAck p) media e = unheeded (ReleaseAck p) media e refl
-  heeded-message alike (AcceptAck p) media e = unheeded (AcceptAck p) media e refl
-  heeded-message alike (GroupAccept a) media e = unheeded (GroupAccept a) media e refl
-  heeded-message alike (Announcement call confirm) media e = go (eqb (call .group) (s .«own_group»)) refl
+  after-message alike (SetupRequest p t) media e = unheeded (SetupRequest p t) media e refl
+  after-message alike (Ringing p) media e = unheeded (Ringing p) media e refl
+  after-message alike (Accept p) media e = unheeded (Accept p) media e refl
+  after-message alike (Reject p reason) media e = unheeded (Reject p reason) media e refl
+  after-message alike (Release p) media e = unheeded (Release p) media e refl
+  after-message alike (ReleaseAck p) media e = unheeded (ReleaseAck p) media e refl
+  after-message alike (AcceptAck p) media e = unheeded (AcceptAck p) media e refl
+  after-message alike (GroupAccept a) media e = unheeded (GroupAccept a) media e refl
+  after-message alike (Announcement call confirm) media e = go (eqb (call .group) (s .«own_group»)) refl
     where
-      go : (b : Bool) → eqb (call .group) (s .«own_group») ≡ b → Heeded s g x (promised s g (hears call confirm media (x .verdicts)) (x .lent))
-      go true o = heeded-own call confirm media e o alike
+      go : (b : Bool) → eqb (call .group) (s .«own_group») ≡ b → AfterLine s g x (promised s g (hears call confirm media (x .verdicts)) (x .lent))
+      go true o = after-own call confirm media e o alike
       go false o = unheeded (Announcement call confirm) media e o
 
   -- whatever was read
-  heeded-read : AlikeBrought → (r : Read) (media : Media) → readLine (x .line) ≡ readAs r media
-      → Heeded s g x (answerTo promised s g r media (x .verdicts) (x .lent))
+  after-read : AlikeBrought → (r : Read) (media : Media) → readLine (x .line) ≡ readAs r media
+      → AfterLine s g x (answerTo promised s g r media (x .verdicts) (x .lent))
   unfolding ownRead
-  heeded-read alike (Refused n) media e = keeps _ refl (sym (ap (λ (y : Reading). numberOf (y .read)) e) ∙ number-read (x .line), refl, refl) (brings-none (Refused n) media e refl)
-  heeded-read alike (Readable m) media e = heeded-message alike m media e
+  after-read alike (Refused n) media e = keeps _ refl (sym (ap (λ (y : Reading). numberOf (y .read)) e) ∙ number-read (x .line), refl, refl) (brings-none (Refused n) media e refl)
+  after-read alike (Readable m) media e = after-message alike m media e
 
 -- whatever line is heard, where a call that it brings is alike the stored one if it has its identifier
-pub heeded : (s : Settings) (g : GroupRecord) (x : HeardLine) → InCall s g
-    → ((c : Call) → Brings s (x .line) c → c .0 .identifier ≡ g .call .identifier → c ≡ callOf g) → Heeded s g x (answerHearing promised s g x)
-heeded s g x is alike =
+pub after-line : (s : Settings) (g : GroupRecord) (x : HeardLine) → InCall s g
+    → ((c : Call) → Brings s (x .line) c → c .0 .identifier ≡ g .call .identifier → c ≡ callOf g) → AfterLine s g x (answerHearing promised s g x)
+after-line s g x is alike =
     let e = ongoing-is s g (is .formed) (is .ongoing) in
-    subst (λ (h : GroupRecord). Heeded s h x (answerHearing promised s h x)) (sym e)
-    (heeded-read s (g .call) (g .media) x (is .settings) (rw e at (is .formed)) alike (readLine (x .line) .read) (readLine (x .line) .media) refl)
+    subst (λ (h : GroupRecord). AfterLine s h x (answerHearing promised s h x)) (sym e)
+    (after-read s (g .call) (g .media) x (is .settings) (rw e at (is .formed)) alike (readLine (x .line) .read) (readLine (x .line) .media) refl)

@@ -10,6 +10,7 @@ pub mod Consequences
 pub mod PrivateHeeds
 pub mod GroupHeeds
 pub mod Varying
+pub mod Builds
 pub mod HearingOne
 pub mod SameCall
 pub mod TwoCabs

@@ -1,13 +1,12 @@
 -- The marked cases hold. Assumes nothing.
 use mathlib.Core.Path.{_≡_, refl, sym, ap, _∙_, subst}
 use mathlib.Core.List.{List, [], _∷_}
-use mathlib.Core.Bool.{Bool, true, false, not, _&&_}
-use Prim.Native.Nat.{ℕ, zero, suc, _<_}
-use native.Mathlib.Nat.{not-suc-le-zero}
+use mathlib.Core.Bool.{true, false, not}
+use Prim.Native.Nat.{ℕ, _<_}
 use native.Mathlib.Omega.{arith}
 use lib.ListN.{length, set, replicate, length-replicate}
 use lib.Dec.{ltb, eqb}
-use borrow.Author.Tests.{eqb-true, eqb-false, eq-eqb, ne-eqb}
+use borrow.Author.Tests.{eqb-true, eq-eqb, ne-eqb}
 use Rattle.frame.specs.Number.{firstGiven}
 use Rattle.frame.specs.Digits.{allDigits, inHex, numberAt, allInHex, numbersAt}
 use Rattle.frame.specs.Frame.{partiesGood, setupGood, groupCallGood, acceptanceGood, inRange}
@@ -16,7 +15,6 @@ use Rattle.frame.specs.Line.{messageAt, mediaAt, count, refusalOf, readLine, li
 use Rattle.frame.specs.Writing.{writeNumber}
 use Rattle.frame.specs.declared.Media.{Media}
 use Rattle.frame.specs.declared.Message.{Message}
-use Rattle.frame.proofs.Laws.{and-split}
 use Rattle.call.specs.Settings.{noCounters, settingsGood}
 use Rattle.call.specs.declared.PrivateTimer.{PrivateTimer}
 use Rattle.call.specs.declared.PrivateAction.{PrivateAction}
@@ -48,22 +46,7 @@ use Rattle.demands.specs.Played.{crewWith, crew, ours, theirs, cfp1At, s
 use Rattle.demands.specs.GroupPlayed.{mine, heard, goesOn, announces}
 use Rattle.demands.specs.MarkedCases.{steps, step-holds, last-expiry-holds, second-discarded-holds, expiry-discarded-holds}
 use Rattle.demands.specs.MarkedCases.{merges, lowerWins, typeBeats, merges-holds, lower-wins-holds, type-beats-holds, choosing-holds}
-
--- a test that is computed at each number below n, and what it shows of each
-unfoldable pub below : ℕ → (ℕ → Bool) → Bool
-below zero p = true
-below (suc n) p = p n && below n p
-
--- what such a test shows of each number
-pub at : (n : ℕ) (p : ℕ → Bool) → below n p ≡ true → (i : ℕ) → i < n → p i ≡ true
-unfolding below
-at zero p e i h = absurd (not-suc-le-zero h)
-at (suc n) p e i h =
-    let both = and-split (p n) (below n p) e in go (eqb i n) refl (both .0) (λ k. at n p (both .1) i k)
-  where
-    go : (b : Bool) → eqb i n ≡ b → p n ≡ true → (i < n → p i ≡ true) → p i ≡ true
-    go true t x y = ap p (eqb-true i n t) ∙ x
-    go false t x y = let d = eqb-false i n t in y (omega (arith, d))
+use Rattle.demands.proofs.Tables.{below, at}
 
 -- a byte in place of any digit, by the test at each place
 everywhere : {l : List ℕ} {byte n : ℕ} → below (count l) (λ (k : ℕ). eqb (lineNumber (set l k byte)) n) ≡ true → Holds (spoilt l byte n)

@@ -11,13 +11,13 @@ use Rattle.log.proofs.answer_log.Reads as answer-log
 use Rattle.call.proofs.number_before_row.Reads as number-before-row
 use Rattle.call.proofs.request_of.Reads as request-of
 use Rattle.call.proofs.requests.private_request.Reads as private-request
+use Rattle.call.proofs.announced_of.Reads as announced-of
 use Rattle.call.proofs.write_sent.Reads as write-sent
 use Rattle.private_rows.proofs.well_formed.Reads as well-formed
 use Rattle.private_rows.proofs.row_of.Reads as row-of
 use Rattle.private_rows.proofs.states.cleared_record.Reads as cleared-record
 use Rattle.private_effects.proofs.carry_out.Reads as carry-out
 use Rattle.private_call.proofs.step.Reads as step
-use Rattle.call.proofs.announced_of.Reads as announced-of
 use Rattle.group_order.proofs.rank.Reads as rank
 use Rattle.group_order.proofs.better.Reads as better
 use Rattle.chooser.proofs.choose_number.Reads as choose-number
@@ -79,6 +79,10 @@ request-of-one κs = result-alone (λ a. tt) (λ a r q s t x y. same x y)
 pub private-request-one : (κs : Lifetimes.Lfts 0) → OneAnswer (private-request.Asked κs) (private-request.Learnt κs) (λ r. r) (λ t. tt {0})
 private-request-one κs = result-alone (λ a. tt) (λ a r q s t x y. same x y)
 
+-- the announcement that an event brings
+pub announced-of-one : (κs : Lifetimes.Lfts 0) → OneAnswer (announced-of.Asked κs) (announced-of.Learnt κs) (λ r. r) (λ t. tt {0})
+announced-of-one κs = result-alone (λ a. tt) (λ a r q s t x y. same x y)
+
 -- the number and length of what a step sends, and the buffer
 pub write-sent-one : (κs : Lifetimes.Lfts 1) → OneAnswer (write-sent.Asked κs) (write-sent.Learnt κs) (λ r. r) (λ t. t .1 .1 .0 .now)
 write-sent-one κs = record { asksNothing = λ a. tt; oneResult = λ a r q s t x y. same (x .0) (y .0); oneExit = λ a r q s t x y. same (x .1) (y .1) }
@@ -102,10 +106,6 @@ carry-out-one κs = result-alone (λ a. tt) (λ a r q s t x y. same x y)
 -- the answer of a step, and the buffer
 pub step-one : (κs : Lifetimes.Lfts 1) → OneAnswer (step.Asked κs) (step.Learnt κs) (λ r. r) (λ t. t .1 .1 .1 .0 .now)
 step-one κs = record { asksNothing = λ a. tt; oneResult = λ a r q s t x y. same (x .0) (y .0); oneExit = λ a r q s t x y. same (x .1) (y .1) }
-
--- the announcement that an event brings
-pub announced-of-one : (κs : Lifetimes.Lfts 0) → OneAnswer (announced-of.Asked κs) (announced-of.Learnt κs) (λ r. r) (λ t. tt {0})
-announced-of-one κs = result-alone (λ a. tt) (λ a r q s t x y. same x y)
 
 -- the rank of a type
 pub rank-one : (κs : Lifetimes.Lfts 0) → OneAnswer (rank.Asked κs) (rank.Learnt κs) (λ r. r) (λ t. tt {0})

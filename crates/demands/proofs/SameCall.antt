@@ -9,8 +9,8 @@ use Rattle.group_order.proofs.Order.{never-itself, not-better-chain, same-ident
 use Rattle.group_rows.specs.declared.states.GroupRecord.{GroupRecord}
 use Rattle.group_call.specs.Hearing.{ongoing, HeardLine, promised, answerHearing, hear, hearAll}
 use Rattle.group_call.proofs.Merging.{ongoing-is}
-use Rattle.demands.specs.SameCall.{Cab, Call, callOf, Announcing, Announced, Knows, InCall, Alike, SameSet, Best, endOf, Silent, BestCall, SameCall, AnyOrder}
-use Rattle.demands.proofs.HearingOne.{Brings, Heeded, heeded}
+use Rattle.demands.specs.SameCall.{Cab, Call, callOf, Announcing, HearsOf, Knows, InCall, Alike, SameSet, Best, endOf, Silent, EndsInBest, BestCall, SameCall, AnyOrder}
+use Rattle.demands.proofs.HearingOne.{Brings, AfterLine, after-line}
 
 -- ---- sets
 
@@ -23,17 +23,17 @@ knows-first : (s : Settings) (g : GroupRecord) (x : HeardLine) (xs : List HeardL
 knows-first s g x xs c m = inr ((x, List·Memᴰ·head refl, m .0), m .1)
 
 -- so is what later lines announce
-announced-later : (s : Settings) (x : HeardLine) (xs : List HeardLine) (c : Call) → Announced s xs c → Announced s (x ∷ xs) c
+announced-later : (s : Settings) (x : HeardLine) (xs : List HeardLine) (c : Call) → HearsOf s xs c → HearsOf s (x ∷ xs) c
 announced-later s x xs c m = ((m .0 .0, List·Memᴰ·tail (m .0 .1), m .0 .2), m .1)
 
 -- what is announced is brought by the first line, or announced by a later one
-pub announced-split : (s : Settings) (x : HeardLine) (xs : List HeardLine) (c : Call) → Announced s (x ∷ xs) c → Brings s (x .line) c ⊎ Announced s xs c
+pub announced-split : (s : Settings) (x : HeardLine) (xs : List HeardLine) (c : Call) → HearsOf s (x ∷ xs) c → Brings s (x .line) c ⊎ HearsOf s xs c
 announced-split s x xs c m =
     ⊎-elim (λ e. inl (subst (λ (y : HeardLine). Announcing (y .line) c) e (m .0 .2), m .1)) (λ n. inr ((m .0 .0, n, m .0 .2), m .1))
     (List·Memᴰ·cases-cons (m .0 .1))
 
 -- what is known after the first line was known before it
-knew : (s : Settings) (g : GroupRecord) (x : HeardLine) (xs : List HeardLine) → Heeded s g x (answerHearing promised s g x) → (c : Call)
+knew : (s : Settings) (g : GroupRecord) (x : HeardLine) (xs : List HeardLine) → AfterLine s g x (answerHearing promised s g x) → (c : Call)
     → Knows (cabOf s (hear promised s g x) xs) c → Knows (cabOf s g (x ∷ xs)) c
 knew s g x xs h c (inl e) =
     ⊎-elim (λ p. inl (e ∙ p)) (λ m. knows-first s g x xs c (subst (λ (d : Call). Brings s (x .line) d) (sym e) m)) (h .known)
@@ -41,45 +41,7 @@ knew s g x xs h c (inr m) = inr (announced-later s x xs c m)
 
 -- ---- one cab
 
--- after all lines
-pub record Ended (s : Settings) (g : GroupRecord) (xs : List HeardLine) : Type 0 where
-  pub inCall : InCall s (hearAll promised s g xs)
-  pub best : Best (Knows (cabOf s g xs)) (callOf (hearAll promised s g xs))
-  pub silent : Silent promised s g xs
-
--- by one line after the other
-ended : (s : Settings) (xs : List HeardLine) (g : GroupRecord) → InCall s g → Alike (Knows (cabOf s g xs)) → Ended s g xs
-ended s [] g is alike =
-    record {
-      inCall = is;
-      best =
-          record {
-            member = inl refl;
-            noneBetter = λ d k. ⊎-elim (λ e. ap (λ (c : Call). isBetter (c .0) (g .call)) e ∙ never-itself (g .call)) (λ m. absurd (List·Memᴰ·not-nil (m .0 .1))) k;
-          };
-      silent = tt;
-    }
-ended s (x ∷ xs) g is alike =
-    let h = heeded s g x is (λ c m e. alike c (callOf g) (knows-first s g x xs c m) (inl refl) e) in
-    let knew-all = knew s g x xs h in
-    let rest = ended s xs (hear promised s g x) (h .inCall) (λ a b k l e. alike a b (knew-all a k) (knew-all b l) e) in
-    let last = hearAll promised s g (x ∷ xs) .call in
-    let later : (d : Call) → isBetter (d .0) (hear promised s g x .call) ≡ false → isBetter (d .0) last ≡ false =
-    λ d n. not-better-chain (d .0) (hear promised s g x .call) last n (rest .best .noneBetter (callOf (hear promised s g x)) (inl refl))
-    in
-    record {
-      inCall = rest .inCall;
-      best =
-          record {
-            member = knew-all _ (rest .best .member);
-            noneBetter = λ d k.
-                ⊎-elim (λ e. later d (ap (λ (c : Call). isBetter (c .0) (hear promised s g x .call)) e ∙ h .oldNotBetter))
-                (λ m. ⊎-elim (λ b. later d (h .broughtNotBetter d b)) (λ n. rest .best .noneBetter d (inr n)) (announced-split s x xs d m)) k;
-          };
-      silent = (h .silent, rest .silent);
-    }
-
--- of alike calls the best is better than each other one
+-- of alike calls the best is better than every other
 others-worse : (known : Call → Type 0) → Alike known → (c : Call) → Best known c → (d : Call) → known d → (d ≡ c) ⊎ (isBetter (c .0) (d .0) ≡ true)
 others-worse known alike c t d k = go (isBetter (c .0) (d .0)) refl
   where
@@ -87,11 +49,39 @@ others-worse known alike c t d k = go (isBetter (c .0) (d .0)) refl
     go true e = inr e
     go false e = inl (alike d c k (t .member) (same-identifier (d .0) (c .0) (t .noneBetter d k) e))
 
+-- what is to be shown of one cab
+shown : (x : Cab) → Alike (Knows x) → InCall (x .settings) (endOf promised x) → Best (Knows x) (callOf (endOf promised x))
+    → Silent promised (x .settings) (x .stored) (x .lines) → EndsInBest promised x
+shown x alike is best silent =
+    record { inCall = is; best = best; othersWorse = others-worse (Knows x) alike (callOf (endOf promised x)) best; silent = silent }
+
+-- by one line after the other
+ended : (s : Settings) (xs : List HeardLine) (g : GroupRecord) → InCall s g → Alike (Knows (cabOf s g xs)) → EndsInBest promised (cabOf s g xs)
+ended s [] g is alike =
+    shown (cabOf s g []) alike is
+    (record {
+      member = inl refl;
+      noneBetter = λ d k. ⊎-elim (λ e. ap (λ (c : Call). isBetter (c .0) (g .call)) e ∙ never-itself (g .call)) (λ m. absurd (List·Memᴰ·not-nil (m .0 .1))) k;
+    }) tt
+ended s (x ∷ xs) g is alike =
+    let h = after-line s g x is (λ c m e. alike c (callOf g) (knows-first s g x xs c m) (inl refl) e) in
+    let knew-all = knew s g x xs h in
+    let rest = ended s xs (hear promised s g x) (h .inCall) (λ a b k l e. alike a b (knew-all a k) (knew-all b l) e) in
+    let last = hearAll promised s g (x ∷ xs) .call in
+    let later : (d : Call) → isBetter (d .0) (hear promised s g x .call) ≡ false → isBetter (d .0) last ≡ false =
+    λ d n. not-better-chain (d .0) (hear promised s g x .call) last n (rest .best .noneBetter (callOf (hear promised s g x)) (inl refl))
+    in
+    shown (cabOf s g (x ∷ xs)) alike (rest .inCall)
+    (record {
+      member = knew-all _ (rest .best .member);
+      noneBetter = λ d k.
+          ⊎-elim (λ e. later d (ap (λ (c : Call). isBetter (c .0) (hear promised s g x .call)) e ∙ h .oldNotBetter))
+          (λ m. ⊎-elim (λ b. later d (h .broughtNotBetter d b)) (λ n. rest .best .noneBetter d (inr n)) (announced-split s x xs d m)) k;
+    }) (h .silent, rest .silent)
+
 -- one cab ends in the best call that it knows of
 pub best-call : BestCall promised
-best-call x is alike =
-    let e = ended (x .settings) (x .lines) (x .stored) is alike in
-    record { inCall = e .inCall; best = e .best; othersWorse = others-worse (Knows x) alike (callOf (endOf promised x)) (e .best); silent = e .silent }
+best-call x is alike = ended (x .settings) (x .lines) (x .stored) is alike
 
 -- ---- two cabs
 

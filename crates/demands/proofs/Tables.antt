@@ -1,15 +1,37 @@
--- A table of tests gives each number exactly when. Assumes nothing.
+-- Tests that are computed at each number below a bound, and tables of tests that give each number exactly when. Assumes nothing.
 use mathlib.Core.Path.{_≡_, refl, sym, ap, _∙_}
 use mathlib.Core.Logic.{_⊎_, inl, inr, ⊎-elim}
 use mathlib.Core.List.{List, [], _∷_}
 use mathlib.Core.Bool.{Bool, true, false, not, _&&_, cond, true≢false}
-use Prim.Native.Nat.{ℕ}
+use Prim.Native.Nat.{ℕ, zero, suc, _<_}
+use native.Mathlib.Nat.{not-suc-le-zero}
+use native.Mathlib.Omega.{arith}
 use lib.Dec.{eqb}
-use borrow.Author.Tests.{eq-eqb}
+use borrow.Author.Tests.{eq-eqb, eqb-true, eqb-false}
 use Rattle.frame.specs.Number.{firstGiven}
 use Rattle.frame.proofs.Laws.{and-split}
 use Rattle.demands.specs.ExactlyWhen.{ExactlyWhen, Among, GivenExactlyWhen}
 use Rattle.demands.proofs.Reflects.{Reflects}
+
+-- ---- a test at each number
+
+-- a test that is computed at each number below n, and what it shows of each
+unfoldable pub below : ℕ → (ℕ → Bool) → Bool
+below zero p = true
+below (suc n) p = p n && below n p
+
+-- what such a test shows of each number
+pub at : (n : ℕ) (p : ℕ → Bool) → below n p ≡ true → (i : ℕ) → i < n → p i ≡ true
+unfolding below
+at zero p e i h = absurd (not-suc-le-zero h)
+at (suc n) p e i h =
+    let both = and-split (p n) (below n p) e in go (eqb i n) refl (both .0) (λ k. at n p (both .1) i k)
+  where
+    go : (b : Bool) → eqb i n ≡ b → p n ≡ true → (i < n → p i ≡ true) → p i ≡ true
+    go true t x y = ap p (eqb-true i n t) ∙ x
+    go false t x y = let d = eqb-false i n t in y (omega (arith, d))
+
+-- ---- a table of tests
 
 -- a row: the number, the test, the condition
 abbrev pub Row : Type 1

@@ -27,9 +27,9 @@ use Rattle.group_call.specs.Carried.{stoppedOf, runningAfter, carryOut}
 use Rattle.group_call.specs.Step.{stepOf, stepBuffer}
 use Rattle.group_call.specs.Hearing.{HeardLine, Build, promised, answerTo, hear, hearAll}
 use Rattle.demands.specs.MarkedCases.{ringing}
-use Rattle.demands.specs.SameCall.{Call, callOf, Announcing, Announced, Knows, Alike, SameSet, Together, endOf, SameCall}
+use Rattle.demands.specs.SameCall.{Call, callOf, Announcing, HearsOf, Knows, Alike, SameSet, Together, endOf, SameCall}
 use Rattle.demands.specs.TwoCabs.{basic, peril, emergency, elsewhere, basicLater, basicSaid, perilSaid, emergencySaid, elsewhereSaid, basicLaterSaid, cutShort, ringingSaid}
-use Rattle.demands.specs.TwoCabs.{firstCab, secondCab, NeverMerges, EndApart, hearsLater, hearsEarlier, AlikeNeeded, hearsNothing, hearsEmergency, SameSetNeeded}
+use Rattle.demands.specs.TwoCabs.{firstCab, secondCab, NeverMerges, staying, EndApart, hearsLater, hearsEarlier, AlikeNeeded, hearsNothing, hearsEmergency, SameSetNeeded}
 use Rattle.demands.proofs.HearingOne.{Brings, announced-one}
 use Rattle.demands.proofs.SameCall.{announced-split}
 
@@ -65,11 +65,11 @@ Three c = (c ≡ basic) ⊎ ((c ≡ peril) ⊎ (c ≡ emergency))
 
 module _ {P : Type 0} (s : Settings) (c : Call) where
   -- what is announced, by the first line or by a later one
-  by-line : (x : HeardLine) (xs : List HeardLine) → (Brings s (x .line) c → P) → (Announced s xs c → P) → Announced s (x ∷ xs) c → P
+  by-line : (x : HeardLine) (xs : List HeardLine) → (Brings s (x .line) c → P) → (HearsOf s xs c → P) → HearsOf s (x ∷ xs) c → P
   by-line x xs here later m = ⊎-elim here later (announced-split s x xs c m)
 
   -- no line announces nothing
-  by-none : Announced s [] c → P
+  by-none : HearsOf s [] c → P
   by-none m = absurd (List·Memᴰ·not-nil (m .0 .1))
 
 -- the first cab knows of no others
@@ -77,7 +77,7 @@ first-knows : (c : Call) → Knows firstCab c → Three c
 unfolding Three
 first-knows c (inl e) = inl e
 first-knows c (inr m) = let s = firstCab .settings in
-    by-line s c _ _ is-peril (by-line s c _ _ (λ b. absurd (cut-announces-none c (b .0))) (by-line s c _ _ is-emergency (by-line s c _ _ is-peril (by-none s c)))) m
+    by-line s c _ _ is-peril (by-line s c _ _ (λ b. absurd (cut-announces-none c (b .0))) (by-line s c _ _ is-emergency (by-line s c _ _ is-peril (by-line s c _ _ is-emergency (by-none s c))))) m
   where
     is-peril : Brings (firstCab .settings) (perilSaid .line) c → Three c
     is-peril b = inr (inl (announced-one (perilSaid .line) c peril (b .0) (lines-said .1)))
@@ -177,6 +177,10 @@ never-merging-fails b never demand =
     eqb-false 16 17 refl
     (sym (stays (firstCab .settings) (firstCab .lines) (firstCab .stored) refl) ∙ (same ∙ stays (secondCab .settings) (secondCab .lines) (secondCab .stored) refl))
 
+-- there is such a build
+pub staying-never-merges : NeverMerges staying
+staying-never-merges s g m media v out e = (e, refl)
+
 -- ---- what the premises are for
 
 -- the cab in the one call 16 knows of both, and so does the other
@@ -191,11 +195,12 @@ both-known =
           (by-line (hearsEarlier .settings) c _ _ (λ b. inl (announced-one (basicSaid .line) c basic (b .0) (lines-said .0))) (by-none (hearsEarlier .settings) c)) k;
     }
 
--- what either of the cabs in call 16 knows of is one of the three
+-- the cab in call 16 that hears nothing knows of one of the three
 nothing-knows : (c : Call) → Knows hearsNothing c → Three c
 unfolding Three
 nothing-knows c = ⊎-elim (λ e. inl e) (by-none (hearsNothing .settings) c)
 
+-- so does the one that hears of the emergency
 emergency-knows : (c : Call) → Knows hearsEmergency c → Three c
 unfolding Three
 emergency-knows c =

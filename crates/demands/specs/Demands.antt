@@ -6,32 +6,37 @@ use mathlib.Core.List.{List}
 use Prim.Native.Nat.{ℕ}
 use Rattle.frame.specs.Frame.{GoodFrame}
 use Rattle.frame.specs.Layout.{lineOf}
-use Rattle.frame.specs.Line.{reading, readLine, lineNumber}
-use Rattle.frame.specs.Writing.{writeNumber, writtenOf, bufferOf}
+use Rattle.frame.specs.Line.{numberOf, reading, readLine, lineNumber}
+use Rattle.frame.specs.Writing.{writtenOf, bufferOf}
 use Rattle.frame.specs.declared.Media.{Media}
 use Rattle.frame.specs.declared.Message.{Message}
-use Rattle.log.specs.Answer.{answerOf, answerNumber, answerTold, answerBuffer}
+use Rattle.log.specs.Answer.{answerOf, answerTold, answerBuffer}
 use Rattle.chooser.specs.Choice.{choiceNumber}
-use Rattle.group_call.specs.Hearing.{promised}
+use Rattle.call.specs.Sending.{lineSent, sendTold, sendBuffer}
+use Rattle.call.specs.declared.Send.{Send}
+use Rattle.group_call.specs.Hearing.{Build}
 use Rattle.demands.specs.ExactlyWhen.{GivenExactlyWhen, lineTable, writeTable, answerTable, choiceTable, StepExactlyWhen}
 use Rattle.demands.specs.NothingChanges.{NothingChanges, ReadNothingChanges, ChooseNothingChanges, StepNothingChanges}
 use Rattle.demands.specs.Machines.{Machine, RowsHold, CarriesOut, KeepsWellFormed, SendsGood, TimersAgree, ChangeStops, SparesRanOut, privateMachine, groupMachine}
 use Rattle.demands.specs.Consequences.{KnownRows, EveryRowTold, Heeds, NeverStill, Varies}
-use Rattle.demands.specs.SameCall.{BestCall, SameCall, AnyOrder}
+use Rattle.demands.specs.Builds.{BuildOf, builtAs, RefusesAll, DiscardsAll, StandsStill, NeverVaries, MakesUpRow}
+use Rattle.demands.specs.SameCall.{KeepsContract, BestCall, SameCall, AnyOrder}
 
 -- ---- Demand 1: whatever comes in gets an answer; what is bad gets its number, and nothing else happens
 
 -- each number has its exact condition and its place in the order
 pub record NumbersGiven : Type 0 where
-  -- a line: 1, 2, 3, 4, 5
+  -- a line to check: 1, 2, 3, 4, 5
   pub ofLine : (l : List ℕ) → GivenExactlyWhen (lineNumber l) (lineTable l)
+  -- a line to read: the same
+  pub ofReading : (l : List ℕ) → GivenExactlyWhen (numberOf (readLine l .read)) (lineTable l)
   -- a frame to write: 5, 6
-  pub ofWriting : (m : Message) (media : Media) (out : List ℕ) → GivenExactlyWhen (writeNumber m media out) (writeTable m media out)
+  pub ofWriting : (m : Message) (media : Media) (out : List ℕ) → GivenExactlyWhen (writtenOf m media out .number) (writeTable m media out)
   -- a log to answer: 6
-  pub ofAnswering : (log out : List ℕ) → GivenExactlyWhen (answerNumber log out) (answerTable log out)
+  pub ofAnswering : (log out : List ℕ) → GivenExactlyWhen (answerTold log out .number) (answerTable log out)
   -- two lines to choose between: a number of the first, else of the second, else 10
   pub ofChoosing : (first second : List ℕ) → GivenExactlyWhen (choiceNumber first second) (choiceTable first second)
-  -- a step of the private call machine: 7, 9, then 5 or 8, then 6
+  -- a step of the private call machine: 7, then 9, then 5 or 8, and 6 last
   pub ofPrivateStep : StepExactlyWhen privateMachine
   -- a step of the group call machine: the same
   pub ofGroupStep : StepExactlyWhen groupMachine
@@ -42,6 +47,8 @@ pub record RefusalsKeep : Type 0 where
   pub byReading : ReadNothingChanges
   -- the writer
   pub byWriting : (m : Message) (media : Media) (out : List ℕ) → NothingChanges (lineOf m media) (writtenOf m media out) out (bufferOf m media out)
+  -- what a step sends
+  pub bySending : (sent : Send) (media : Media) (out : List ℕ) → NothingChanges (lineSent sent media) (sendTold sent media out) out (sendBuffer sent media out)
   -- the answer to a log
   pub byAnswering : (log out : List ℕ) → NothingChanges (answerOf log) (answerTold log out) out (answerBuffer log out)
   -- the chooser
@@ -51,7 +58,7 @@ pub record RefusalsKeep : Type 0 where
   -- a step of the group call machine
   pub byGroupStep : StepNothingChanges groupMachine
 
--- both
+-- demand 1: the numbers, and that nothing else happens
 pub record Demand1 : Type 0 where
   -- the numbers
   pub numbers : NumbersGiven
@@ -84,14 +91,27 @@ pub record ByTheRows (M : Machine) (last : ℕ) : Type 0 where
   pub changeStops : ChangeStops M
   -- what just ran out is not stopped
   pub sparesRanOut : SparesRanOut M
-  -- a build that discards every event is shut out
+  -- from every well-formed record some event leads to another state
   pub heeds : Heeds M
-  -- so is one that heeds a first event and nothing after it
+  -- and after any steps
   pub neverStill : NeverStill M
-  -- and one whose reply never varies
+  -- answers vary with the input, and with the record
   pub varies : Varies M
 
--- lines, and both machines
+-- which builds of the step do not go by the rows, whatever else they do
+pub record ShutsOut (M : Machine) (last : ℕ) : Type 0 where
+  -- one that refuses everything
+  pub refusing : (b : BuildOf M) → RefusesAll M b → ByTheRows (builtAs M b) last → ⊥
+  -- one whose answer never varies
+  pub unvarying : (b : BuildOf M) → NeverVaries M b → ByTheRows (builtAs M b) last → ⊥
+  -- one that discards every event
+  pub discarding : (b : BuildOf M) → DiscardsAll M b → ByTheRows (builtAs M b) last → ⊥
+  -- one that heeds a first event and nothing after it
+  pub standingStill : (b : BuildOf M) → StandsStill M b → ByTheRows (builtAs M b) last → ⊥
+  -- one with a row of its own
+  pub makingUp : (b : BuildOf M) → MakesUpRow M last b → ByTheRows (builtAs M b) last → ⊥
+
+-- demand 2: lines, both machines, and what they shut out
 pub record Demand2 : Type 0 where
   -- one frame, one line
   pub oneLine : OneLine
@@ -99,14 +119,18 @@ pub record Demand2 : Type 0 where
   pub privateRows : ByTheRows privateMachine 29
   -- G1 to G11
   pub groupRows : ByTheRows groupMachine 11
+  -- no other private call machine
+  pub privateShutsOut : ShutsOut privateMachine 29
+  -- no other group call machine
+  pub groupShutsOut : ShutsOut groupMachine 11
 
 -- ---- Demand 3: two cabs of one group in S3 that know of the same calls end in the same call, the best of them
 
--- what the contract of the group step allows does so
+-- demand 3: every build that keeps the contract of the group step does so
 pub record Demand3 : Type 0 where
   -- one cab ends in the best call that it knows of
-  pub oneCab : BestCall promised
+  pub oneCab : (b : Build) → KeepsContract b → BestCall b
   -- two cabs end in the same one
-  pub twoCabs : SameCall promised
+  pub twoCabs : (b : Build) → KeepsContract b → SameCall b
   -- order, repeats, unreadable lines and other traffic count for nothing
-  pub anyOrder : AnyOrder promised
+  pub anyOrder : (b : Build) → KeepsContract b → AnyOrder b

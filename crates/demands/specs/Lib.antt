@@ -3,13 +3,14 @@ pub mod Machines
 pub mod ExactlyWhen
 pub mod NothingChanges
 pub mod Consequences
+pub mod Builds
 pub mod SameCall
 pub mod TwoCabs
 pub mod MarkedCases
 pub mod OneAnswer
 pub mod RowPlays
-pub mod Strays
 pub mod GroupPlays
+pub mod Strays
 pub mod Played
 pub mod GroupPlayed
 pub mod Totals

@@ -10,11 +10,12 @@ use Rattle.frame.specs.declared.GroupCall.{GroupCall}
 use Rattle.frame.specs.declared.Message.the-variants.{Announcement}
 use Rattle.call.specs.Settings.{settingsGood}
 use Rattle.call.specs.declared.Settings.{Settings}
+use Rattle.call.specs.declared.Input.{Input}
 use Rattle.group_order.specs.Order.{isBetter}
 use Rattle.group_rows.specs.Formed.{wellFormed}
 use Rattle.group_rows.specs.declared.states.State.{State}
 use Rattle.group_rows.specs.declared.states.GroupRecord.{GroupRecord}
-use Rattle.group_call.specs.Hearing.{HeardLine, Build, answerHearing, hear, hearAll}
+use Rattle.group_call.specs.Hearing.{HeardLine, Build, promised, answerHearing, hear, hearAll}
 use Rattle.group_call.specs.declared.Stepped.{Stepped}
 
 -- ---- a cab and the calls that it knows of
@@ -41,12 +42,12 @@ abbrev pub Announcing : List ℕ → Call → Type 0
 Announcing line c = (confirm : ℕ) × (readLine line ≡ reading (Announcement (c .0) confirm) (c .1))
 
 -- some line announces this call, and the call is of the own group
-abbrev pub Announced : Settings → List HeardLine → Call → Type 0
-Announced s lines c = ((x : HeardLine) × List·Memᴰ x lines × Announcing (x .line) c) × (c .0 .group ≡ s .«own_group»)
+abbrev pub HearsOf : Settings → List HeardLine → Call → Type 0
+HearsOf s lines c = ((x : HeardLine) × List·Memᴰ x lines × Announcing (x .line) c) × (c .0 .group ≡ s .«own_group»)
 
 -- the set of a cab: the own call, and those of its group that it hears announced
 abbrev pub Knows : Cab → Call → Type 0
-Knows x c = (c ≡ callOf (x .stored)) ⊎ Announced (x .settings) (x .lines) c
+Knows x c = (c ≡ callOf (x .stored)) ⊎ HearsOf (x .settings) (x .lines) c
 
 -- ---- what is assumed
 
@@ -96,7 +97,7 @@ pub record Best (known : Call → Type 0) (c : Call) : Type 0 where
 abbrev pub endOf : Build → Cab → GroupRecord
 endOf b x = hearAll b (x .settings) (x .stored) (x .lines)
 
--- an answer to a line that refuses nothing but the line, and sends nothing: the line's number, length 0, and every byte of the lent buffer as it was
+-- an answer to a line that sends nothing: the line's own number, length 0, and every byte of the lent buffer as it was
 abbrev pub Unsent : HeardLine → Stepped × List ℕ → Type 0
 Unsent x answer = (answer .0 .number ≡ lineNumber (x .line)) × (answer .0 .length ≡ 0) × (answer .1 ≡ x .lent)
 
@@ -111,7 +112,7 @@ pub record EndsInBest (b : Build) (x : Cab) : Type 0 where
   pub inCall : InCall (x .settings) (endOf b x)
   -- its call is the best
   pub best : Best (Knows x) (callOf (endOf b x))
-  -- so it is better than each other one
+  -- so it is better than every other
   pub othersWorse : (c : Call) → Knows x c → (c ≡ callOf (endOf b x)) ⊎ (isBetter (endOf b x .call) (c .0) ≡ true)
   -- no readable line was refused, and nothing was sent
   pub silent : Silent b (x .settings) (x .stored) (x .lines)
@@ -129,6 +130,10 @@ pub record EndTogether (b : Build) (x y : Cab) : Type 0 where
 
 -- ---- the demand
 
+-- a build keeps the contract of the step
+abbrev pub KeepsContract : Build → Type 0
+KeepsContract b = (s : Settings) (g : GroupRecord) (i : Input) (out : List ℕ) → b s g i out ≡ promised s g i out
+
 -- a build brings one cab to the best call that it knows of, where calls with the same identifier are alike
 abbrev pub BestCall : Build → Type 0
 BestCall b = (x : Cab) → InCall (x .settings) (x .stored) → Alike (Knows x) → EndsInBest b x
@@ -141,4 +146,4 @@ SameCall b = (x y : Cab) → Together x y → EndTogether b x y
 abbrev pub AnyOrder : Build → Type 0
 AnyOrder b =
     (s : Settings) (g : GroupRecord) (xs ys : List HeardLine) → InCall s g → Alike (Knows (record { settings = s; stored = g; lines = xs }))
-    → ((c : Call) → Announced s xs c ↔ Announced s ys c) → hearAll b s g xs ≡ hearAll b s g ys
+    → ((c : Call) → HearsOf s xs c ↔ HearsOf s ys c) → hearAll b s g xs ≡ hearAll b s g ys

@@ -12,6 +12,7 @@ use Rattle.call.specs.declared.Verdicts.{Verdicts}
 use Rattle.call.specs.declared.Event.{Event}
 use Rattle.group_rows.specs.declared.states.State.{State}
 use Rattle.group_rows.specs.declared.states.GroupRecord.{GroupRecord}
+use Rattle.group_call.specs.Step.{discarded}
 use Rattle.group_call.specs.Hearing.{ongoing, inputOf, HeardLine, Build, promised}
 use Rattle.demands.specs.Text.{bytes}
 use Rattle.demands.specs.Played.{crew, five, six}
@@ -71,24 +72,28 @@ abbrev pub otherCrew : Settings
 otherCrew = record { «own_user» = 9; «own_group» = 3; restrict = true; acknowledgement = true; limits = record { cfp1 = 1; cfp3 = 1; cfp4 = 1 } }
 
 -- a record in S3 that holds this call
-abbrev pub inCall : Call → GroupRecord
-inCall c = ongoing (c .0) (c .1)
+abbrev pub holding : Call → GroupRecord
+holding c = ongoing (c .0) (c .1)
 
--- the first is in call 16, and hears call 17, a line cut short, call 18, and call 17 again
+-- the first is in call 16, and hears call 17, a line cut short, call 18, then 17 and 18 again
 abbrev pub firstCab : Cab
-firstCab = record { settings = crew; stored = inCall basic; lines = perilSaid ∷ cutShort ∷ emergencySaid ∷ perilSaid ∷ [] }
+firstCab = record { settings = crew; stored = holding basic; lines = perilSaid ∷ cutShort ∷ emergencySaid ∷ perilSaid ∷ emergencySaid ∷ [] }
 
 -- the second is in call 17, and hears call 18, call 19 of another group, RINGING, and call 16
 abbrev pub secondCab : Cab
-secondCab = record { settings = otherCrew; stored = inCall peril; lines = emergencySaid ∷ elsewhereSaid ∷ ringingSaid ∷ basicSaid ∷ [] }
+secondCab = record { settings = otherCrew; stored = holding peril; lines = emergencySaid ∷ elsewhereSaid ∷ ringingSaid ∷ basicSaid ∷ [] }
 
 -- ---- a build that never merges
 
--- whatever message it hears in S3, it stays there and in the call with its identifier
+-- whatever message it hears in S3, it stays there, in a call with the stored identifier
 abbrev pub NeverMerges : Build → Type 0
 NeverMerges b =
     (s : Settings) (g : GroupRecord) (m : Message) (media : Media) (v : Verdicts) (out : List ℕ) → g .state ≡ State.S3
     → let next = b s g (inputOf (Event.Message m) media v) out .0 .next in (next .state ≡ State.S3) × (next .call .identifier ≡ g .call .identifier)
+
+-- one such build: it discards whatever comes in
+abbrev pub staying : Build
+staying s g i out = (discarded g, out)
 
 -- ---- what the premises are for
 
@@ -105,15 +110,15 @@ pub record EndApart (x y : Cab) : Type 0 where
 
 -- a cab of user 7 in this call that hears these lines
 abbrev pub cabIn : Call → List HeardLine → Cab
-cabIn c xs = record { settings = crew; stored = inCall c; lines = xs }
+cabIn c xs = record { settings = crew; stored = holding c; lines = xs }
 
 -- call 16 once more, but it started a second later
 abbrev pub basicLater : Call
-basicLater = (callIn 3 16 1 7 1001 1000, five)
+basicLater = (callIn 3 16 1 7 1001 1001, five)
 
 -- it is announced
 abbrev pub basicLaterSaid : HeardLine
-basicLaterSaid = said "0800100000000301001e0000000500000007000003e9000003e80000000700\n"
+basicLaterSaid = said "0800100000000301001e0000000500000007000003e9000003e90000000700\n"
 
 -- in the one call 16, hearing of the other
 abbrev pub hearsLater : Cab

@@ -54,7 +54,7 @@ first-chain m n o p q r f d e =
     let (k, kq) = first-held n o q e in
     holds-first m o r (omega arith) (λ x. f (hp (omega arith)) (kq (omega arith)))
 
--- so does its failing, as the rest's does
+-- where it fails along a chain it fails from end to end, as the rest does
 failed-chain : (m n o : ℕ) (p q r : Bool) → (p ≡ false → q ≡ false → r ≡ false) → byFirst m n p ≡ false → byFirst n o q ≡ false → byFirst m o r ≡ false
 failed-chain m n o p q r f d e =
     let (h, hp) = first-failed m n p d in
@@ -88,7 +88,7 @@ along-a-chain a b c =
     (first-chain (a .start) (b .start) (c .start) (lower a b) (lower b c) (lower a c)
     (λ x y. let h = ltb-true (a .identifier) (b .identifier) x in let k = ltb-true (b .identifier) (c .identifier) y in lt-ltb (a .identifier) (c .identifier) (omega (arith, h, k))))
 
--- what is not better than a call that is not better is not better
+-- if a is not better than b, nor b than c, then a is not better than c
 pub not-better-chain : (a b c : GroupCall) → isBetter a b ≡ false → isBetter b c ≡ false → isBetter a c ≡ false
 not-better-chain a b c =
     failed-chain (ranks a) (ranks b) (ranks c) (sooner a b) (sooner b c) (sooner a c)

@@ -1,0 +1,57 @@
+-- Builds of a call machine that must be shut out. Assumes nothing.
+use mathlib.Core.Path.{_≡_}
+use mathlib.Core.List.{List}
+use Prim.Native.Nat.{ℕ, _<_}
+use Rattle.call.specs.declared.Settings.{Settings}
+use Rattle.call.specs.declared.Input.{Input}
+use Rattle.demands.specs.Machines.{Answer, Machine}
+
+-- a build of a call machine: for all settings, records, inputs and lent buffers an answer, and the buffer after it
+pub record BuildOf (M : Machine) : Type 0 where
+  -- the answer
+  pub answer : Settings → M .Stored → Input → List ℕ → Answer (M .Stored) (M .Timers)
+  -- the buffer
+  pub after : Settings → M .Stored → Input → List ℕ → List ℕ
+
+-- the machine with this build for its step; what its rows ask and give stays
+abbrev pub builtAs : (M : Machine) → BuildOf M → Machine
+builtAs M b =
+    record {
+      Stored = M .Stored;
+      Timers = M .Timers;
+      Timer = M .Timer;
+      has = M .has;
+      noTimer = M .noTimer;
+      running = M .running;
+      changes = M .changes;
+      ranOut = M .ranOut;
+      wellFormed = M .wellFormed;
+      RefusedByRow = M .RefusedByRow;
+      sent = M .sent;
+      media = M .media;
+      carried = M .carried;
+      step = b .answer;
+      buffer = b .after;
+    }
+
+-- it refuses everything
+abbrev pub RefusesAll : (M : Machine) → BuildOf M → Type 0
+RefusesAll M b = (s : Settings) (p : M .Stored) (i : Input) (out : List ℕ) → b .answer s p i out .number ≡ 0 → ⊥
+
+-- it meets no row, whatever happens
+abbrev pub DiscardsAll : (M : Machine) → BuildOf M → Type 0
+DiscardsAll M b = (s : Settings) (p : M .Stored) (i : Input) (out : List ℕ) → b .answer s p i out .row ≡ 0
+
+-- it may heed a first event, and then its record never changes again
+abbrev pub StandsStill : (M : Machine) → BuildOf M → Type 0
+StandsStill M b =
+    (s : Settings) (p : M .Stored) (i j : Input) (out next : List ℕ) → let first = b .answer s p i out .next in b .answer s first j next .next ≡ first
+
+-- its answer is always the same row
+abbrev pub NeverVaries : (M : Machine) → BuildOf M → Type 0
+NeverVaries M b =
+    (s : Settings) (p q : M .Stored) (i j : Input) (out : List ℕ) → b .answer s p i out .row ≡ b .answer s q j out .row
+
+-- it tells a row above the last
+abbrev pub MakesUpRow : (M : Machine) → ℕ → BuildOf M → Type 0
+MakesUpRow M last b = (s : Settings) × (p : M .Stored) × (i : Input) × (out : List ℕ) × (last < b .answer s p i out .row)

@@ -119,9 +119,9 @@ pub record Demand2 : Type 0 where
   pub privateRows : ByTheRows privateMachine 29
   -- G1 to G11
   pub groupRows : ByTheRows groupMachine 11
-  -- no other private call machine
+  -- builds that R1 to R29 shut out
   pub privateShutsOut : ShutsOut privateMachine 29
-  -- no other group call machine
+  -- builds that G1 to G11 shut out
   pub groupShutsOut : ShutsOut groupMachine 11
 
 -- ---- Demand 3: two cabs of one group in S3 that know of the same calls end in the same call, the best of them

@@ -1,4 +1,2 @@
 pub mod Laws
-pub mod Stepping
-pub mod Answers
 pub mod Timing

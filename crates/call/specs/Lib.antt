@@ -1,7 +1,5 @@
 pub mod Settings
 pub mod Request
 pub mod Announced
-pub mod Numbers
-pub mod Sending
 pub mod Timing
 pub mod Meeting

@@ -12,7 +12,7 @@ use frame::GroupCall;
 use frame::Message;
 
 // The group call that the user's start makes.
-pub(crate) fn started_group_call(settings: Settings, start: GroupStart) -> GroupCall
+fn started_group_call(settings: Settings, start: GroupStart) -> GroupCall
     ensures { λ r. ⌜ r ≡ startedGroupCall settings start ⌝ }
 {
     GroupCall {

@@ -1,20 +1,15 @@
 // What the private and the group machine share: settings, timers, user actions, events, verdicts, what a step sends.
 mod announcements;
-mod number;
 pub mod requests;
 
 ghost use mathlib.Core.Path.{_≡_};
-ghost use Rattle.call.specs.Numbers.{numberBeforeRow};
 ghost use Rattle.call.specs.Announced.{announcedOf};
 ghost use Rattle.call.specs.Request.{requestOf};
-ghost use Rattle.call.specs.Sending.{sendTold, sendBuffer};
 use frame::GroupCall;
 use frame::Media;
 use frame::Message;
 use frame::Parties;
 use frame::Setup;
-use frame::Written;
-use frame::write_line;
 
 // The three counters, each of the sendings of one message; and a limit for each of them.
 pub struct Counters {
@@ -174,28 +169,6 @@ impl Announced {
     };
 }
 
-// The number that a step gives before it looks for a row: 7 for a setting, 9 for a record that is not well formed,
-// 5 for a field of a message, 8 for an argument of an action; 0 where there is nothing to refuse.
-pub fn number_before_row(settings: Settings, well_formed: bool, input: Input) -> u8
-    ensures { λ r. ⌜ r ≡ numberBeforeRow settings «well_formed» input ⌝ }
-{
-    if !number::settings_good(settings) {
-        return 7;
-    }
-    if !well_formed {
-        return 9;
-    }
-    let event = input.event;
-    let media = input.media;
-    if !number::heard_good(event, media) {
-        return 5;
-    }
-    if !number::arguments_good(settings, event, media) {
-        return 8;
-    }
-    0
-}
-
 // The setup request that an event brings: the one received, or the one that the user's start makes.
 pub fn request_of(settings: Settings, event: Event) -> Request
     ensures { λ r. ⌜ r ≡ requestOf settings event ⌝ }
@@ -216,19 +189,5 @@ pub fn announced_of(settings: Settings, event: Event) -> Announced
         Event::Action(action) => announcements::action_announced(settings, action),
         Event::Expiry(_) => Announced::NONE,
         Event::Message(message) => announcements::message_announced(message),
-    }
-}
-
-// What a step sends, at the front of a lent buffer: nothing, or the line of a message, with the writer's number.
-pub fn write_sent(sent: Send, media: Media, out: &mut [u8]) -> Written
-    ensures { λ r. ⌜ r ≡ sendTold sent media (now (out .entry)) ⌝ }
-    ensures { λ _. ⌜ now (out .exit) ≡ sendBuffer sent media (now (out .entry)) ⌝ }
-{
-    match sent {
-        Send::Nothing => Written {
-            number: 0,
-            length: 0,
-        },
-        Send::Message(message) => write_line(message, media, out),
     }
 }

@@ -26,7 +26,7 @@ pub fn private_request(parties: Parties, commencement: u8, pck_id: u32) -> Reque
 }
 
 // The setup request that the user's start makes.
-pub(crate) fn start_request(settings: Settings, start: PrivateStart) -> Request
+fn start_request(settings: Settings, start: PrivateStart) -> Request
     ensures { λ r. ⌜ r ≡ startRequest settings start ⌝ }
 {
     private_request(

@@ -10,13 +10,13 @@ use Rattle.call.specs.declared.Settings.{Settings}
 use Rattle.call.specs.declared.GroupTimer.{GroupTimer}
 use Rattle.call.specs.declared.Input.{Input}
 use Rattle.call.specs.declared.Send.{Send}
-use Rattle.call.proofs.Stepping.{SentGood}
-use Rattle.group_rows.specs.States.{has}
+use Rattle.stepping.proofs.Stepping.{SentGood}
+use Rattle.group_record.specs.States.{has}
 use Rattle.group_rows.specs.Rows.{rowNumber, rowOf}
 use Rattle.group_call.specs.Carried.{isLater, runningAfter}
 use Rattle.group_call.specs.Step.{changeTooEarly, doneOf, stepNumber}
-use Rattle.group_rows.specs.declared.states.Timers.{Timers}
-use Rattle.group_rows.specs.declared.states.GroupRecord.{GroupRecord}
+use Rattle.group_record.specs.declared.states.Timers.{Timers}
+use Rattle.group_record.specs.declared.states.GroupRecord.{GroupRecord}
 use Rattle.group_rows.specs.declared.rows.Row.the-variants.{G9}
 use Rattle.group_call.specs.declared.Stepped.{Stepped}
 use Rattle.group_rows.proofs.Meets.{same-row}

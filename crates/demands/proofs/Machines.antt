@@ -3,9 +3,9 @@ use mathlib.Core.Path.{_≡_, sym, ap, _∙_, subst}
 use Rattle.call.specs.Timing.{runsAfter}
 use Rattle.call.specs.declared.PrivateTimer.{PrivateTimer}
 use Rattle.call.specs.declared.Send.{Send}
-use Rattle.call.proofs.Stepping.{SentGood}
-use Rattle.private_rows.specs.Phases.{has}
-use Rattle.private_rows.specs.declared.states.Timers.{Timers}
+use Rattle.stepping.proofs.Stepping.{SentGood}
+use Rattle.private_record.specs.Phases.{has}
+use Rattle.private_record.specs.declared.states.Timers.{Timers}
 use Rattle.private_rows.proofs.WellFormed.{has-set}
 use Rattle.private_effects.specs.Carried.{runningAfter}
 use Rattle.private_call.specs.Step.{doneOf}

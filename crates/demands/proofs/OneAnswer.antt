@@ -3,19 +3,19 @@ use mathlib.Core.Path.{_≡_, refl, sym, _∙_}
 use contract.Lifetimes as Lifetimes
 use Rattle.frame.proofs.check_line.Reads as check-line
 use Rattle.frame.proofs.read_line.Reads as read-line
-use Rattle.frame.proofs.write_line.Reads as write-line
+use Rattle.writer.proofs.write_line.Reads as write-line
 use Rattle.frame.proofs.range.in_range.Reads as in-range
 use Rattle.frame.proofs.carried.media_none.Reads as media-none
 use Rattle.log.proofs.first_line_length.Reads as first-line-length
 use Rattle.log.proofs.answer_log.Reads as answer-log
-use Rattle.call.proofs.number_before_row.Reads as number-before-row
+use Rattle.stepping.proofs.number_before_row.Reads as number-before-row
 use Rattle.call.proofs.request_of.Reads as request-of
 use Rattle.call.proofs.requests.private_request.Reads as private-request
 use Rattle.call.proofs.announced_of.Reads as announced-of
-use Rattle.call.proofs.write_sent.Reads as write-sent
-use Rattle.private_rows.proofs.well_formed.Reads as well-formed
+use Rattle.stepping.proofs.write_sent.Reads as write-sent
+use Rattle.private_record.proofs.well_formed.Reads as well-formed
 use Rattle.private_rows.proofs.row_of.Reads as row-of
-use Rattle.private_rows.proofs.states.cleared_record.Reads as cleared-record
+use Rattle.private_record.proofs.states.cleared_record.Reads as cleared-record
 use Rattle.private_effects.proofs.carry_out.Reads as carry-out
 use Rattle.private_call.proofs.step.Reads as step
 use Rattle.group_order.proofs.rank.Reads as rank
@@ -23,9 +23,9 @@ use Rattle.group_order.proofs.better.Reads as better
 use Rattle.chooser.proofs.choose_number.Reads as choose-number
 use Rattle.chooser.proofs.choose.Reads as choose
 use Rattle.chooser.specs.Choice.{place}
-use Rattle.group_rows.proofs.well_formed.Reads as group-well-formed
+use Rattle.group_record.proofs.well_formed.Reads as group-well-formed
 use Rattle.group_rows.proofs.row_of.Reads as group-row-of
-use Rattle.group_rows.proofs.states.cleared_record.Reads as group-cleared-record
+use Rattle.group_record.proofs.states.cleared_record.Reads as group-cleared-record
 use Rattle.group_call.proofs.step.Reads as group-step
 use Rattle.demands.specs.OneAnswer.{OneAnswer}
 

@@ -2,10 +2,10 @@
 use mathlib.Core.Path.{_≡_}
 use contract.Lifetimes as Lifetimes
 use Rattle.frame.specs.Line.{readLine, lineNumber}
-use Rattle.frame.specs.Writing.{writtenOf, bufferOf}
+use Rattle.writer.specs.Writing.{writtenOf, bufferOf}
 use Rattle.frame.proofs.check_line.Reads as check-line
 use Rattle.frame.proofs.read_line.Reads as read-line
-use Rattle.frame.proofs.write_line.Reads as write-line
+use Rattle.writer.proofs.write_line.Reads as write-line
 use Rattle.log.specs.Answer.{answerTold, answerBuffer}
 use Rattle.log.proofs.answer_log.Reads as answer-log
 use Rattle.chooser.specs.Choice.{choiceOf, choiceNumber, place, placeOf}

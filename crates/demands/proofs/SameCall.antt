@@ -6,7 +6,7 @@ use mathlib.Core.Bool.{Bool, true, false}
 use Rattle.call.specs.declared.Settings.{Settings}
 use Rattle.group_order.specs.Order.{isBetter}
 use Rattle.group_order.proofs.Order.{never-itself, not-better-chain, same-identifier}
-use Rattle.group_rows.specs.declared.states.GroupRecord.{GroupRecord}
+use Rattle.group_record.specs.declared.states.GroupRecord.{GroupRecord}
 use Rattle.group_call.specs.Hearing.{ongoing, HeardLine, promised, answerHearing, hear, hearAll}
 use Rattle.group_call.proofs.Merging.{ongoing-is}
 use Rattle.demands.specs.SameCall.{Cab, Call, callOf, Announcing, HearsOf, Knows, InCall, Alike, SameSet, Best, endOf, Silent, EndsInBest, BestCall, SameCall, AnyOrder}

@@ -14,13 +14,13 @@ use Rattle.call.specs.declared.PrivateTimer.{PrivateTimer}
 use Rattle.call.specs.declared.PrivateAction.{PrivateAction}
 use Rattle.call.specs.declared.GroupAction.{GroupAction}
 use Rattle.call.specs.declared.Input.{Input}
-use Rattle.private_rows.specs.declared.states.Phase.{Phase}
-use Rattle.private_rows.specs.declared.states.PrivateRecord.{PrivateRecord}
-use Rattle.group_rows.specs.States.{tfg4, tfg2And6}
-use Rattle.group_rows.specs.Formed.{clearedRecord, wellFormed}
+use Rattle.private_record.specs.declared.states.Phase.{Phase}
+use Rattle.private_record.specs.declared.states.PrivateRecord.{PrivateRecord}
+use Rattle.group_record.specs.States.{tfg4, tfg2And6}
+use Rattle.group_record.specs.Formed.{clearedRecord, wellFormed}
 use Rattle.group_rows.specs.Rows.{rowIn}
-use Rattle.group_rows.specs.declared.states.State.{State}
-use Rattle.group_rows.specs.declared.states.GroupRecord.{GroupRecord}
+use Rattle.group_record.specs.declared.states.State.{State}
+use Rattle.group_record.specs.declared.states.GroupRecord.{GroupRecord}
 use Rattle.group_call.specs.Carried.{stoppedOf, runningAfter, carryOut}
 use Rattle.group_call.specs.Step.{stepOf, stepBuffer}
 use Rattle.demands.specs.Machines.{Answer, Machine, privateMachine, groupMachine}

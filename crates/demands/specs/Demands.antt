@@ -7,12 +7,12 @@ use Prim.Native.Nat.{ℕ}
 use Rattle.frame.specs.Frame.{GoodFrame}
 use Rattle.frame.specs.Layout.{lineOf}
 use Rattle.frame.specs.Line.{numberOf, reading, readLine, lineNumber}
-use Rattle.frame.specs.Writing.{writtenOf, bufferOf}
+use Rattle.writer.specs.Writing.{writtenOf, bufferOf}
 use Rattle.frame.specs.declared.Media.{Media}
 use Rattle.frame.specs.declared.Message.{Message}
 use Rattle.log.specs.Answer.{answerOf, answerTold, answerBuffer}
 use Rattle.chooser.specs.Choice.{choiceNumber}
-use Rattle.call.specs.Sending.{lineSent, sendTold, sendBuffer}
+use Rattle.stepping.specs.Sending.{lineSent, sendTold, sendBuffer}
 use Rattle.call.specs.declared.Send.{Send}
 use Rattle.group_call.specs.Hearing.{Build}
 use Rattle.demands.specs.ExactlyWhen.{GivenExactlyWhen, lineTable, writeTable, answerTable, choiceTable, StepExactlyWhen}

@@ -13,7 +13,7 @@ use Rattle.frame.specs.declared.Message.{Message}
 use Rattle.log.specs.Answer.{answerOf}
 use Rattle.chooser.specs.NoChoice.{NoChoice}
 use Rattle.call.specs.Settings.{settingsGood}
-use Rattle.call.specs.Numbers.{heardGood, argumentsGood}
+use Rattle.stepping.specs.Numbers.{heardGood, argumentsGood}
 use Rattle.call.specs.declared.Settings.{Settings}
 use Rattle.call.specs.declared.Input.{Input}
 use Rattle.demands.specs.Totals.{totals}

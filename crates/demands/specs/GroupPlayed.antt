@@ -11,9 +11,9 @@ use Rattle.call.specs.declared.GroupAction.{GroupAction}
 use Rattle.call.specs.declared.Action.{Action}
 use Rattle.call.specs.declared.Event.{Event}
 use Rattle.call.specs.declared.Input.{Input}
-use Rattle.group_rows.specs.States.{runningOf}
-use Rattle.group_rows.specs.declared.states.State.{State}
-use Rattle.group_rows.specs.declared.states.GroupRecord.{GroupRecord}
+use Rattle.group_record.specs.States.{runningOf}
+use Rattle.group_record.specs.declared.states.State.{State}
+use Rattle.group_record.specs.declared.states.GroupRecord.{GroupRecord}
 use Rattle.demands.specs.Played.{five, six}
 
 -- user 7 of group 3, who is asked before a call is joined

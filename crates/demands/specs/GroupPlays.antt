@@ -7,9 +7,9 @@ use Rattle.call.specs.declared.PrivateTimer.{PrivateTimer}
 use Rattle.call.specs.declared.GroupTimer.{GroupTimer}
 use Rattle.call.specs.declared.PrivateAction.{PrivateAction}
 use Rattle.call.specs.declared.GroupAction.{GroupAction}
-use Rattle.group_rows.specs.States.{noTimer, tfg2, tfg4, tfg2And6}
-use Rattle.group_rows.specs.Formed.{clearedRecord}
-use Rattle.group_rows.specs.declared.states.State.{State}
+use Rattle.group_record.specs.States.{noTimer, tfg2, tfg4, tfg2And6}
+use Rattle.group_record.specs.Formed.{clearedRecord}
+use Rattle.group_record.specs.declared.states.State.{State}
 use Rattle.demands.specs.Machines.{groupMachine}
 use Rattle.demands.specs.Played.{crewWith, crew, five, six, hears, does, expires}
 use Rattle.demands.specs.GroupPlayed.{askedCrew, callIn, mine, heard, changed, inCall, goesOn, announces, doesInGroup, startsGroup, raises, groupExpires}

@@ -8,7 +8,7 @@ use lib.ListN.{length, set, replicate}
 use Rattle.frame.specs.Media.{noMedia}
 use Rattle.frame.specs.Frame.{inRange}
 use Rattle.frame.specs.Line.{count, lineNumber, readLine, reading, refusal}
-use Rattle.frame.specs.Writing.{writeNumber}
+use Rattle.writer.specs.Writing.{writeNumber}
 use Rattle.frame.specs.declared.Media.{Media}
 use Rattle.frame.specs.declared.Message.{Message}
 use Rattle.frame.specs.declared.GroupCall.{GroupCall}
@@ -20,17 +20,17 @@ use Rattle.call.specs.declared.Verdicts.{Verdicts}
 use Rattle.call.specs.declared.PrivateTimer.{PrivateTimer}
 use Rattle.call.specs.declared.PrivateAction.{PrivateAction}
 use Rattle.call.specs.declared.Input.{Input}
-use Rattle.private_rows.specs.Formed.{wellFormed}
-use Rattle.private_rows.specs.declared.states.State.{State}
-use Rattle.private_rows.specs.declared.states.Phase.{Phase}
-use Rattle.private_rows.specs.declared.states.PrivateRecord.{PrivateRecord}
+use Rattle.private_record.specs.Formed.{wellFormed}
+use Rattle.private_record.specs.declared.states.State.{State}
+use Rattle.private_record.specs.declared.states.Phase.{Phase}
+use Rattle.private_record.specs.declared.states.PrivateRecord.{PrivateRecord}
 use Rattle.private_call.specs.Step.{stepOf}
 use Rattle.private_call.specs.Running.{expiry, userAccepts}
 use Rattle.group_order.specs.Order.{rankOf, isBetter}
 use Rattle.chooser.specs.Choice.{choiceOf, choiceNumber}
-use Rattle.group_rows.specs.Formed as GroupFormed
-use Rattle.group_rows.specs.declared.states.State as GroupState
-use Rattle.group_rows.specs.declared.states.GroupRecord.{GroupRecord}
+use Rattle.group_record.specs.Formed as GroupFormed
+use Rattle.group_record.specs.declared.states.State as GroupState
+use Rattle.group_record.specs.declared.states.GroupRecord.{GroupRecord}
 use Rattle.group_call.specs.Step as GroupStep
 use Rattle.group_call.specs.Hearing as Hearing
 use Rattle.demands.specs.Text.{bytes}

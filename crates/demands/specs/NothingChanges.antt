@@ -4,9 +4,9 @@ use mathlib.Core.List.{List, []}
 use Prim.Native.Nat.{ℕ}
 use lib.ListN.{length}
 use denote.Ref.{RefT}
-use Rattle.frame.specs.Lent.{atFront}
+use Rattle.writer.specs.Lent.{atFront}
 use Rattle.frame.specs.Line.{lineNumber, readLine, refusal}
-use Rattle.frame.specs.declared.Written.{Written}
+use Rattle.writer.specs.declared.Written.{Written}
 use Rattle.chooser.specs.Choice.{choiceOf, choiceNumber, placeOf}
 use Rattle.call.specs.declared.Settings.{Settings}
 use Rattle.call.specs.declared.Input.{Input}

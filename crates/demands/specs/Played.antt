@@ -13,10 +13,10 @@ use Rattle.call.specs.declared.PrivateAction.{PrivateAction}
 use Rattle.call.specs.declared.Action.{Action}
 use Rattle.call.specs.declared.Event.{Event}
 use Rattle.call.specs.declared.Input.{Input}
-use Rattle.private_rows.specs.Phases.{stateOf, runningOf}
-use Rattle.private_rows.specs.declared.states.Phase.{Phase}
-use Rattle.private_rows.specs.declared.states.PrivateCall.{PrivateCall}
-use Rattle.private_rows.specs.declared.states.PrivateRecord.{PrivateRecord}
+use Rattle.private_record.specs.Phases.{stateOf, runningOf}
+use Rattle.private_record.specs.declared.states.Phase.{Phase}
+use Rattle.private_record.specs.declared.states.PrivateCall.{PrivateCall}
+use Rattle.private_record.specs.declared.states.PrivateRecord.{PrivateRecord}
 
 -- ---- who plays
 

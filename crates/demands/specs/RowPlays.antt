@@ -4,7 +4,7 @@ use mathlib.Core.List.{List, [], _∷_}
 use Prim.Native.Nat.{ℕ}
 use Prim.Native.String.{String}
 use lib.ListN.{length, replicate}
-use Rattle.frame.specs.Lent.{atFront}
+use Rattle.writer.specs.Lent.{atFront}
 use Rattle.frame.specs.Layout.{longestLine}
 use Rattle.frame.specs.declared.Message.the-variants.{Ringing, Accept, Reject, Release, ReleaseAck, AcceptAck}
 use Rattle.call.specs.Settings.{noCounters}
@@ -12,9 +12,9 @@ use Rattle.call.specs.declared.Settings.{Settings}
 use Rattle.call.specs.declared.PrivateTimer.{PrivateTimer}
 use Rattle.call.specs.declared.PrivateAction.{PrivateAction}
 use Rattle.call.specs.declared.Input.{Input}
-use Rattle.private_rows.specs.Phases.{noTimer, tfp1, tfp2, tfp3, tfp4, tfp5, tfp7}
-use Rattle.private_rows.specs.Formed.{clearedRecord}
-use Rattle.private_rows.specs.declared.states.Phase.{Phase}
+use Rattle.private_record.specs.Phases.{noTimer, tfp1, tfp2, tfp3, tfp4, tfp5, tfp7}
+use Rattle.private_record.specs.Formed.{clearedRecord}
+use Rattle.private_record.specs.declared.states.Phase.{Phase}
 use Rattle.private_call.specs.Running.{sentPrivate}
 use Rattle.demands.specs.Text.{bytes}
 use Rattle.demands.specs.Machines.{Machine, privateMachine}

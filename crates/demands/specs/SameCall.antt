@@ -12,9 +12,9 @@ use Rattle.call.specs.Settings.{settingsGood}
 use Rattle.call.specs.declared.Settings.{Settings}
 use Rattle.call.specs.declared.Input.{Input}
 use Rattle.group_order.specs.Order.{isBetter}
-use Rattle.group_rows.specs.Formed.{wellFormed}
-use Rattle.group_rows.specs.declared.states.State.{State}
-use Rattle.group_rows.specs.declared.states.GroupRecord.{GroupRecord}
+use Rattle.group_record.specs.Formed.{wellFormed}
+use Rattle.group_record.specs.declared.states.State.{State}
+use Rattle.group_record.specs.declared.states.GroupRecord.{GroupRecord}
 use Rattle.group_call.specs.Hearing.{HeardLine, Build, promised, answerHearing, hear, hearAll}
 use Rattle.group_call.specs.declared.Stepped.{Stepped}
 

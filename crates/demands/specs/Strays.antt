@@ -16,12 +16,12 @@ use Rattle.call.specs.declared.GroupAction.{GroupAction}
 use Rattle.call.specs.declared.Action.{Action}
 use Rattle.call.specs.declared.Event.{Event}
 use Rattle.call.specs.declared.Input.{Input}
-use Rattle.private_rows.specs.Phases.{runningOf}
-use Rattle.private_rows.specs.Formed.{noCall, clearedRecord}
-use Rattle.private_rows.specs.declared.states.State.{State}
-use Rattle.private_rows.specs.declared.states.Timers.{Timers}
-use Rattle.private_rows.specs.declared.states.Phase.{Phase}
-use Rattle.private_rows.specs.declared.states.PrivateRecord.{PrivateRecord}
+use Rattle.private_record.specs.Phases.{runningOf}
+use Rattle.private_record.specs.Formed.{noCall, clearedRecord}
+use Rattle.private_record.specs.declared.states.State.{State}
+use Rattle.private_record.specs.declared.states.Timers.{Timers}
+use Rattle.private_record.specs.declared.states.Phase.{Phase}
+use Rattle.private_record.specs.declared.states.PrivateRecord.{PrivateRecord}
 use Rattle.demands.specs.Machines.{Machine, IsRefused, IsDiscarded, privateMachine}
 use Rattle.demands.specs.Played.{crewWith, crew, secure, ours, theirs, taken, cfp1At, cfp4At, stored, input, hears, hearsInVain, request, does, starts, expires}
 

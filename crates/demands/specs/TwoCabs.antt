@@ -10,8 +10,8 @@ use Rattle.frame.specs.declared.Message.{Message}
 use Rattle.call.specs.declared.Settings.{Settings}
 use Rattle.call.specs.declared.Verdicts.{Verdicts}
 use Rattle.call.specs.declared.Event.{Event}
-use Rattle.group_rows.specs.declared.states.State.{State}
-use Rattle.group_rows.specs.declared.states.GroupRecord.{GroupRecord}
+use Rattle.group_record.specs.declared.states.State.{State}
+use Rattle.group_record.specs.declared.states.GroupRecord.{GroupRecord}
 use Rattle.group_call.specs.Step.{discarded}
 use Rattle.group_call.specs.Hearing.{ongoing, inputOf, HeardLine, Build, promised}
 use Rattle.demands.specs.Text.{bytes}

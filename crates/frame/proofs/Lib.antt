@@ -9,4 +9,3 @@ pub mod ReadsItsLine
 pub mod OnlyLine
 pub mod LineNumbers
 pub mod Longest
-pub mod Stores

@@ -5,5 +5,3 @@ pub mod Media
 pub mod Frame
 pub mod Layout
 pub mod Line
-pub mod Lent
-pub mod Writing

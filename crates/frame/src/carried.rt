@@ -1,14 +1,12 @@
-// Media: its range, its digits in a line and in a buffer; all that knows what media is made of.
+// Media: its range and its digits in a line; with its digits in a buffer all that knows what media is made of.
 use crate::Media;
 use crate::digits::four_at;
 use crate::judge::four_fits;
-use crate::put::put_four;
 use crate::range::four_good;
 ghost use mathlib.Core.Path.{_≡_};
 ghost use Prim.Native.Nat.{_+_, _<_, _≤_};
 ghost use lib.ListN.{length};
-ghost use lib.Seq.{sets};
-ghost use Rattle.frame.specs.Media.{mediaNone, mediaGood, mediaHex, mediaFrom};
+ghost use Rattle.frame.specs.Media.{mediaNone, mediaGood, mediaFrom};
 ghost use Rattle.frame.specs.Line.{Digital};
 
 // Whether there is none.
@@ -42,12 +40,4 @@ pub(crate) fn media_fits(line: &[u8], at: usize) -> bool
     ensures { λ r. ⌜ r ≡ mediaGood (mediaFrom (now (line .entry)) at) ⌝ }
 {
     four_fits(line, at)
-}
-
-// Its digits, from place at on.
-pub(crate) fn put_media(out: &mut [u8], at: usize, media: Media)
-    requires { ⌜ at + 8 ≤ length (now out) ⌝ }
-    ensures { λ _. ⌜ now (out .exit) ≡ sets (now (out .entry)) at (mediaHex media) ⌝ }
-{
-    put_four(out, at, media.number);
 }

@@ -12,26 +12,8 @@ use crate::digits::two_at;
 ghost use mathlib.Core.Path.{_≡_};
 ghost use Prim.Native.Nat.{_+_, _≤_};
 ghost use lib.ListN.{length};
-ghost use Rattle.frame.specs.Frame.{kindOf};
 ghost use Rattle.frame.specs.Layout.{digitsOf};
 ghost use Rattle.frame.specs.Line.{partiesAt, setupAt, groupCallAt, acceptanceAt, messageAt, mediaAt};
-
-// The kind of a message, 1 to 9.
-pub(crate) fn kind_of(message: Message) -> u8
-    ensures { λ r. ⌜ r ≡ kindOf message ⌝ }
-{
-    match message {
-        Message::SetupRequest(_, _) => 1,
-        Message::Ringing(_) => 2,
-        Message::Accept(_) => 3,
-        Message::Reject(_, _) => 4,
-        Message::Release(_) => 5,
-        Message::ReleaseAck(_) => 6,
-        Message::AcceptAck(_) => 7,
-        Message::Announcement(_, _) => 8,
-        Message::GroupAccept(_) => 9,
-    }
-}
 
 // How many digits a line of a kind from 1 to 9 has.
 pub(crate) fn digits_of(kind: u8) -> usize

@@ -1,16 +1,12 @@
-// Lines of the cab terminal: the nine kinds of message, the reader and the writer of their lines.
+// Lines of the cab terminal: the nine kinds of message and the reader of their lines.
 pub mod carried;
 mod digits;
 mod fields;
 mod judge;
-mod put;
 pub mod range;
-mod store;
 
 ghost use mathlib.Core.Path.{_≡_};
-ghost use Rattle.frame.specs.Layout.{longestLine};
 ghost use Rattle.frame.specs.Line.{lineNumber, readLine};
-ghost use Rattle.frame.specs.Writing.{writtenOf, bufferOf};
 
 // What stands beside a message whose kind carries media: today a number.
 pub struct Media {
@@ -114,12 +110,6 @@ pub struct Reading {
     pub media: Media,
 }
 
-// What writing into a lent buffer answers: the number, and the length of what it wrote, 0 where the number refuses.
-pub struct Written {
-    pub number: u8,
-    pub length: usize,
-}
-
 // The number of a line: 0 where it is readable, else the first of 1 to 5 that is given.
 pub fn check_line(line: &[u8]) -> u8
     ensures { λ r. ⌜ r ≡ lineNumber (now (line .entry)) ⌝ }
@@ -166,32 +156,5 @@ pub fn read_line(line: &[u8]) -> Reading
     Reading {
         read: Read::Readable(fields::message_at(line, kind)),
         media: fields::media_at(line, kind),
-    }
-}
-
-// The line of a frame at the front of a lent buffer: 5 where a field is outside its range, 6 where there is no room.
-pub fn write_line(message: Message, media: Media, out: &mut [u8]) -> Written
-    ensures { λ r. ⌜ r ≡ writtenOf message media (now (out .entry)) ⌝ }
-    ensures { λ _. ⌜ now (out .exit) ≡ bufferOf message media (now (out .entry)) ⌝ }
-    ensures { λ _. do ⌜ (← ⟦Message::LONGEST⟧ .entry) ≡ longestLine ⌝ }
-{
-    if !range::in_range(message, media) {
-        return Written {
-            number: 5,
-            length: 0,
-        };
-    }
-    let count = fields::digits_of(fields::kind_of(message));
-    if out.len() <= count {
-        return Written {
-            number: 6,
-            length: 0,
-        };
-    }
-    store::put_frame(out, message, media);
-    out[count] = 0x0a;
-    Written {
-        number: 0,
-        length: count + 1,
     }
 }

@@ -11,17 +11,17 @@ use Rattle.frame.specs.declared.Message.the-variants.{Announcement}
 use Rattle.call.specs.Settings.{settingsGood}
 use Rattle.call.specs.declared.Settings.{Settings}
 use Rattle.call.specs.declared.Verdicts.{Verdicts}
-use Rattle.call.proofs.Stepping.{Taken, tests-pass}
+use Rattle.stepping.proofs.Stepping.{Taken, tests-pass}
 use Rattle.group_order.specs.Order.{isBetter}
-use Rattle.group_rows.specs.States.{tfg2, tfg2And6, runningOf}
-use Rattle.group_rows.specs.Formed.{wellFormed}
+use Rattle.group_record.specs.States.{tfg2, tfg2And6, runningOf}
+use Rattle.group_record.specs.Formed.{wellFormed}
 use Rattle.group_rows.specs.Causes.{sameIdentifier, factsOf}
 use Rattle.group_rows.specs.Rows.{rowNumber, rowIn, rowOf}
 use Rattle.group_call.specs.Carried.{isLater, stoppedOf, runningAfter, laterChange, carryOut}
 use Rattle.group_call.specs.Step.{changeTooEarly, numberBeforeSending, discarded, stepOf, stepBuffer}
 use Rattle.group_call.specs.Hearing.{ongoing, hears}
-use Rattle.group_rows.specs.declared.states.State.{State}
-use Rattle.group_rows.specs.declared.states.GroupRecord.{GroupRecord}
+use Rattle.group_record.specs.declared.states.State.{State}
+use Rattle.group_record.specs.declared.states.GroupRecord.{GroupRecord}
 use Rattle.group_rows.specs.declared.causes.Cause.{Cause}
 use Rattle.group_rows.specs.declared.causes.Facts.{Facts}
 use Rattle.group_rows.specs.declared.rows.Row.{Row}

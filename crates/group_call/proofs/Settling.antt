@@ -4,12 +4,12 @@ use mathlib.Core.Bool.{Bool, true, false, not, _&&_, _||_, Bool·beq}
 use lib.Dec.{eqb}
 use Rattle.frame.proofs.Laws.{and-split}
 use Rattle.call.proofs.Laws.{bothBools, at-bool}
-use Rattle.group_rows.specs.States.{stateNumber, has, setOf, sameTimers, runningOf}
+use Rattle.group_record.specs.States.{stateNumber, has, setOf, sameTimers, runningOf}
 use Rattle.group_rows.specs.Rows.{rowNumber, rowIn}
 use Rattle.group_call.specs.Effects.{effectOf}
 use Rattle.group_call.specs.Carried.{stoppedOf, runningAfter, runningBy}
-use Rattle.group_rows.specs.declared.states.State.{State}
-use Rattle.group_rows.specs.declared.states.Timers.{Timers}
+use Rattle.group_record.specs.declared.states.State.{State}
+use Rattle.group_record.specs.declared.states.Timers.{Timers}
 use Rattle.group_rows.specs.declared.causes.Cause.{Cause}
 use Rattle.group_rows.specs.declared.causes.Facts.{Facts}
 use Rattle.group_rows.specs.declared.rows.Row.{Row}

@@ -13,14 +13,14 @@ use Rattle.call.specs.declared.Verdicts.{Verdicts}
 use Rattle.call.specs.declared.GroupTimer.{GroupTimer}
 use Rattle.call.specs.declared.Event.{Event}
 use Rattle.call.specs.declared.Input.{Input}
-use Rattle.call.proofs.Stepping.{Taken, tests-pass}
-use Rattle.group_rows.specs.States.{has}
-use Rattle.group_rows.specs.Formed.{wellFormed}
+use Rattle.stepping.proofs.Stepping.{Taken, tests-pass}
+use Rattle.group_record.specs.States.{has}
+use Rattle.group_record.specs.Formed.{wellFormed}
 use Rattle.group_rows.specs.Causes.{groupTimerCause, causeOf, factsOf}
 use Rattle.group_rows.specs.Rows.{rowNumber, runs, rowIn, rowOf}
-use Rattle.group_rows.specs.declared.states.State.{State}
-use Rattle.group_rows.specs.declared.states.Timers.{Timers}
-use Rattle.group_rows.specs.declared.states.GroupRecord.{GroupRecord}
+use Rattle.group_record.specs.declared.states.State.{State}
+use Rattle.group_record.specs.declared.states.Timers.{Timers}
+use Rattle.group_record.specs.declared.states.GroupRecord.{GroupRecord}
 use Rattle.group_rows.specs.declared.causes.Cause.{Cause}
 use Rattle.group_rows.specs.declared.causes.Facts.{Facts}
 use Rattle.group_rows.specs.declared.rows.Row.{Row}

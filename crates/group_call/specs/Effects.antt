@@ -1,9 +1,9 @@
 -- What each row G1 to G11 does, one clause a row. Assumes nothing.
 -- What holds for all rows is not said here: that a state change stops what runs on, and what is sent by default.
 use mathlib.Core.Bool.{Bool, cond}
-use Rattle.group_rows.specs.States.{noTimer, tfg2, tfg4, tfg2And6}
-use Rattle.group_rows.specs.declared.states.State.{State}
-use Rattle.group_rows.specs.declared.states.Timers.{Timers}
+use Rattle.group_record.specs.States.{noTimer, tfg2, tfg4, tfg2And6}
+use Rattle.group_record.specs.declared.states.State.{State}
+use Rattle.group_record.specs.declared.states.Timers.{Timers}
 use Rattle.group_rows.specs.declared.rows.Row.{Row}
 use Rattle.group_rows.specs.declared.rows.Row.the-variants.{Discard, G1, G2, G3, G4, G5, G6, G7, G8, G9, G10, G11}
 use Rattle.group_call.specs.declared.effects.Hold.{Hold}

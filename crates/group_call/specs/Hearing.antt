@@ -13,9 +13,9 @@ use Rattle.call.specs.declared.GroupTimer.{GroupTimer}
 use Rattle.call.specs.declared.Timer.{Timer}
 use Rattle.call.specs.declared.Event.{Event}
 use Rattle.call.specs.declared.Input.{Input}
-use Rattle.group_rows.specs.States.{tfg2And6}
-use Rattle.group_rows.specs.declared.states.State.{State}
-use Rattle.group_rows.specs.declared.states.GroupRecord.{GroupRecord}
+use Rattle.group_record.specs.States.{tfg2And6}
+use Rattle.group_record.specs.declared.states.State.{State}
+use Rattle.group_record.specs.declared.states.GroupRecord.{GroupRecord}
 use Rattle.group_call.specs.Step.{refusedOf, stepOf, stepBuffer}
 use Rattle.group_call.specs.declared.Stepped.{Stepped}
 

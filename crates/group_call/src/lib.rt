@@ -12,14 +12,14 @@ use call::Event;
 use call::Input;
 use call::Settings;
 use call::announced_of;
-use call::number_before_row;
-use call::write_sent;
-use frame::Written;
+use group_record::states::GroupRecord;
+use group_record::states::Timers;
+use group_record::well_formed;
 use group_rows::row_of;
 use group_rows::rows::Row;
-use group_rows::states::GroupRecord;
-use group_rows::states::Timers;
-use group_rows::well_formed;
+use stepping::number_before_row;
+use stepping::write_sent;
+use writer::Written;
 
 // What a step answers. A number other than 0 refuses; row 0 is none; `stop` comes ahead of `start`; the line of this
 // length stands at the front of the buffer.

@@ -1,7 +1,7 @@
 // What carrying out a row gives: timers, the call and the message.
 ghost use mathlib.Core.Path.{_≡_};
 ghost use Rattle.group_call.specs.Carried.{ranOut, timerOut, groupTimerOut, changes, stoppedOf, runningAfter};
-ghost use Rattle.group_rows.specs.States.{stateNumber};
+ghost use Rattle.group_record.specs.States.{stateNumber};
 ghost use Rattle.group_call.specs.Carried.{isLater, changedBy, laterChange, heldOf, mediaHeld};
 ghost use Rattle.group_call.specs.Carried.{acceptance, sentOf, carryOut};
 use crate::effects::Hold;
@@ -18,10 +18,10 @@ use frame::Acceptance;
 use frame::GroupCall;
 use frame::Media;
 use frame::Message;
+use group_record::states::GroupRecord;
+use group_record::states::State;
+use group_record::states::Timers;
 use group_rows::rows::Row;
-use group_rows::states::GroupRecord;
-use group_rows::states::State;
-use group_rows::states::Timers;
 
 // What carrying out a row gives: the next record, the timers to stop, then those to start, and what is sent.
 pub struct Carried {

@@ -3,7 +3,7 @@ use mathlib.Core.Path.{_≡_}
 use mathlib.Core.List.{List, [], _∷_}
 use mathlib.Core.Bool.{Bool, true}
 use Rattle.call.proofs.Laws.{each, nth, bothBools, at-bool}
-use Rattle.group_rows.specs.declared.states.State.{State}
+use Rattle.group_record.specs.declared.states.State.{State}
 use Rattle.group_rows.specs.declared.causes.Cause.{Cause}
 use Rattle.group_rows.specs.declared.causes.Facts.{Facts}
 

@@ -1,8 +1,8 @@
 -- How the code finds the row: by the cause, then by the state. Assumes nothing.
 use mathlib.Core.Bool.{Bool, cond, _&&_, _||_}
 use lib.Dec.{eqb}
-use Rattle.group_rows.specs.States.{stateNumber}
-use Rattle.group_rows.specs.declared.states.State.{State}
+use Rattle.group_record.specs.States.{stateNumber}
+use Rattle.group_record.specs.declared.states.State.{State}
 use Rattle.group_rows.specs.declared.causes.Cause.{Cause}
 use Rattle.group_rows.specs.declared.causes.Facts.{Facts}
 use Rattle.group_rows.specs.declared.rows.At.{At}

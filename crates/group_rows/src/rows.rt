@@ -4,7 +4,7 @@ ghost use Rattle.group_rows.specs.Found.{atOf, met as metOf, announcedRo
 ghost use Rattle.group_rows.specs.Rows.{rowIn};
 use crate::causes::Cause;
 use crate::causes::Facts;
-use crate::states::State;
+use group_record::states::State;
 
 // The rows, and Discard where none is met.
 pub enum Row {

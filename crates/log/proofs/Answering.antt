@@ -6,7 +6,7 @@ use native.Mathlib.Omega.{arith}
 use lib.ListN.{length, take, drop, length-append, length-drop, drop-of-length-le, take-append-drop}
 use lib.Seq.{drop-drop, length-take-le}
 use borrow.Rule.Slice.PartMut.{putMid}
-use Rattle.frame.specs.Lent.{atFront}
+use Rattle.writer.specs.Lent.{atFront}
 use Rattle.log.specs.Answer.{answerTo, answersTo, answerOf}
 use Rattle.log.proofs.LineByLine.{answer-none}
 use Rattle.log.proofs.Turns.{partFrom, part-from, Turn, put-front, put-behind, put-length}

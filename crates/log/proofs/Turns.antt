@@ -7,7 +7,7 @@ use native.Mathlib.Omega.{arith}
 use lib.ListN.{length, take, drop, length-append, length-drop, drop-of-length-le}
 use lib.Seq.{take-all, take-at, drop-at, drop-drop, length-take-le}
 use borrow.Rule.Slice.PartMut.{putMid}
-use Rattle.frame.specs.Lent.{atFront}
+use Rattle.writer.specs.Lent.{atFront}
 use Rattle.log.specs.Lines.{linesOf, firstLine, afterFirst}
 use Rattle.log.proofs.Lines.{lines-first, first-is-front, after-is-rest, first-within, first-some}
 

@@ -4,7 +4,7 @@ ghost use mathlib.Core.Path.{_≡_};
 ghost use Prim.Native.Nat.{_≤_};
 ghost use lib.Dec.{leb};
 ghost use lib.ListN.{length};
-ghost use Rattle.frame.specs.Lent.{atFront};
+ghost use Rattle.writer.specs.Lent.{atFront};
 ghost use Rattle.log.specs.Answer.{answerTo, answerOf};
 
 // How long the answer to a line is.

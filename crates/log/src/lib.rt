@@ -2,10 +2,10 @@
 mod answers;
 mod eights;
 
-use frame::Written;
+use writer::Written;
 ghost use mathlib.Core.Path.{_≡_};
 ghost use lib.ListN.{length};
-ghost use Rattle.frame.specs.Lent.{CutPlace};
+ghost use Rattle.writer.specs.Lent.{CutPlace};
 ghost use Rattle.log.specs.Lines.{firstLine};
 ghost use Rattle.log.specs.Answer.{answerTold, answerBuffer};
 

@@ -10,8 +10,8 @@ use Rattle.frame.proofs.Laws.{and-split, within-split}
 use Rattle.call.specs.Settings.{limitGood, limitsGood}
 use Rattle.call.specs.declared.Counters.{Counters}
 use Rattle.call.proofs.Laws.{both}
-use Rattle.private_rows.specs.Formed.{counterGood, countersGood}
-use Rattle.private_rows.specs.declared.states.Timers.{Timers}
+use Rattle.private_record.specs.Formed.{counterGood, countersGood}
+use Rattle.private_record.specs.declared.states.Timers.{Timers}
 use Rattle.private_effects.specs.Carried.{oneMore, counterAfter, countersAfter, runningAfter}
 
 -- between its ends

@@ -9,9 +9,9 @@ use Rattle.call.specs.declared.Settings.{Settings}
 use Rattle.call.specs.declared.PrivateTimer.{PrivateTimer}
 use Rattle.call.specs.declared.Input.{Input}
 use Rattle.call.proofs.Timing.{change-stops-one, spares-one}
-use Rattle.private_rows.specs.Phases.{stateNumber, has}
-use Rattle.private_rows.specs.declared.states.Timers.{Timers}
-use Rattle.private_rows.specs.declared.states.PrivateRecord.{PrivateRecord}
+use Rattle.private_record.specs.Phases.{stateNumber, has}
+use Rattle.private_record.specs.declared.states.Timers.{Timers}
+use Rattle.private_record.specs.declared.states.PrivateRecord.{PrivateRecord}
 use Rattle.private_rows.specs.Rows.{rowOf}
 use Rattle.private_rows.specs.declared.rows.Row.{Row}
 use Rattle.private_rows.proofs.WellFormed.{has-set}

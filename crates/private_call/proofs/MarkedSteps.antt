@@ -7,24 +7,24 @@ use native.Mathlib.Omega.{arith}
 use lib.ListN.{length}
 use lib.Dec.{eqb}
 use borrow.Author.Tests.{eq-eqb, eqb-true}
-use Rattle.frame.specs.Lent.{atFront}
+use Rattle.writer.specs.Lent.{atFront}
 use Rattle.frame.specs.declared.Media.{Media}
 use Rattle.frame.proofs.Laws.{and-split}
 use Rattle.call.specs.Settings.{settingsGood}
-use Rattle.call.specs.Sending.{lineSent, sendNumber}
+use Rattle.stepping.specs.Sending.{lineSent, sendNumber}
 use Rattle.call.specs.declared.Settings.{Settings}
 use Rattle.call.specs.declared.Verdicts.{Verdicts}
 use Rattle.call.specs.declared.PrivateTimer.{PrivateTimer}
 use Rattle.call.specs.declared.Input.{Input}
-use Rattle.call.proofs.Stepping.{Taken}
-use Rattle.private_rows.specs.Phases.{has, noTimer, tfp2, tfp4, stateOf, runningOf, phaseIn}
-use Rattle.private_rows.specs.Formed.{counterGood, wellFormed}
+use Rattle.stepping.proofs.Stepping.{Taken}
+use Rattle.private_record.specs.Phases.{has, noTimer, tfp2, tfp4, stateOf, runningOf, phaseIn}
+use Rattle.private_record.specs.Formed.{counterGood, wellFormed}
 use Rattle.private_rows.specs.Causes.{causeOf, factsOf}
 use Rattle.private_rows.specs.Rows.{rowNumber, runs, rowIn, phaseOf, rowOf}
-use Rattle.private_rows.specs.declared.states.State.{State}
-use Rattle.private_rows.specs.declared.states.Phase.{Phase}
-use Rattle.private_rows.specs.declared.states.Timers.{Timers}
-use Rattle.private_rows.specs.declared.states.PrivateRecord.{PrivateRecord}
+use Rattle.private_record.specs.declared.states.State.{State}
+use Rattle.private_record.specs.declared.states.Phase.{Phase}
+use Rattle.private_record.specs.declared.states.Timers.{Timers}
+use Rattle.private_record.specs.declared.states.PrivateRecord.{PrivateRecord}
 use Rattle.private_rows.specs.declared.causes.Cause.{Cause}
 use Rattle.private_rows.specs.declared.causes.Facts.{Facts}
 use Rattle.private_rows.specs.declared.rows.Row.{Row}

@@ -6,17 +6,17 @@ use mathlib.Core.Bool.{true, false, cond}
 use lib.ListN.{length}
 use lib.Dec.{eqb}
 use borrow.Author.Tests.{eq-eqb, ne-eqb}
-use Rattle.frame.specs.Lent.{lentAfter}
+use Rattle.writer.specs.Lent.{lentAfter}
 use Rattle.call.specs.Settings.{settingsGood}
-use Rattle.call.specs.Sending.{lineSent, sendNumber}
+use Rattle.stepping.specs.Sending.{lineSent, sendNumber}
 use Rattle.call.specs.declared.Settings.{Settings}
 use Rattle.call.specs.declared.Input.{Input}
-use Rattle.call.proofs.Stepping.{Taken, SentGood, number-passed}
-use Rattle.call.proofs.Stepping as stepping
-use Rattle.call.proofs.Answers.{by-cases}
-use Rattle.private_rows.specs.Formed.{wellFormed}
+use Rattle.stepping.proofs.Stepping.{Taken, SentGood, number-passed}
+use Rattle.stepping.proofs.Stepping as stepping
+use Rattle.stepping.proofs.Answers.{by-cases}
+use Rattle.private_record.specs.Formed.{wellFormed}
 use Rattle.private_rows.specs.Rows.{rowNumber, rowOf}
-use Rattle.private_rows.specs.declared.states.PrivateRecord.{PrivateRecord}
+use Rattle.private_record.specs.declared.states.PrivateRecord.{PrivateRecord}
 use Rattle.private_rows.specs.declared.rows.Row.{Row}
 use Rattle.private_rows.specs.declared.rows.Row.the-variants.{Discard}
 use Rattle.private_rows.proofs.Meets.{same-row}

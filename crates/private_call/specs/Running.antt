@@ -13,7 +13,7 @@ use Rattle.call.specs.declared.PrivateAction.{PrivateAction}
 use Rattle.call.specs.declared.Action.{Action}
 use Rattle.call.specs.declared.Event.{Event}
 use Rattle.call.specs.declared.Input.{Input}
-use Rattle.private_rows.specs.declared.states.PrivateRecord.{PrivateRecord}
+use Rattle.private_record.specs.declared.states.PrivateRecord.{PrivateRecord}
 use Rattle.private_call.specs.Step.{stepOf, stepBuffer}
 use Rattle.private_call.specs.declared.Stepped.{Stepped}
 

@@ -5,17 +5,17 @@ ghost use Rattle.private_call.specs.Step.{identifierTaken, refusedOf, mo
 use call::Event;
 use call::Input;
 use call::Settings;
-use call::number_before_row;
 use call::request_of;
-use call::write_sent;
-use frame::Written;
 use private_effects::Carried;
 use private_effects::carry_out;
+use private_record::states::PrivateRecord;
+use private_record::states::Timers;
+use private_record::well_formed;
 use private_rows::row_of;
 use private_rows::rows::Row;
-use private_rows::states::PrivateRecord;
-use private_rows::states::Timers;
-use private_rows::well_formed;
+use stepping::number_before_row;
+use stepping::write_sent;
+use writer::Written;
 
 // What a step answers. A number other than 0 refuses; row 0 is none; `stop` comes ahead of `start`; the line of this
 // length stands at the front of the buffer.

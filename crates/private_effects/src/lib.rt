@@ -9,9 +9,9 @@ use call::Input;
 use call::Send;
 use call::Settings;
 use call::request_of;
+use private_record::states::PrivateRecord;
+use private_record::states::Timers;
 use private_rows::rows::Row;
-use private_rows::states::PrivateRecord;
-use private_rows::states::Timers;
 
 // What carrying out a row gives: the next record, the timers to stop, then those to start, and what is sent.
 pub struct Carried {

@@ -4,7 +4,7 @@ use mathlib.Core.List.{List, [], _∷_}
 use mathlib.Core.Bool.{Bool, true}
 use Rattle.call.specs.declared.PrivateTimer.{PrivateTimer}
 use Rattle.call.proofs.Laws.{each, nth, bothBools, at-bool}
-use Rattle.private_rows.specs.declared.states.Phase.{Phase}
+use Rattle.private_record.specs.declared.states.Phase.{Phase}
 use Rattle.private_rows.specs.declared.causes.Cause.{Cause}
 use Rattle.private_rows.specs.declared.causes.Facts.{Facts}
 

@@ -1,5 +1,3 @@
-pub mod Phases
-pub mod Formed
 pub mod Causes
 pub mod Rows
 pub mod Found

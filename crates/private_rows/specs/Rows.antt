@@ -7,10 +7,10 @@ use Rattle.call.specs.Meeting.{firstMet}
 use Rattle.call.specs.declared.PrivateTimer.{PrivateTimer}
 use Rattle.call.specs.declared.Settings.{Settings}
 use Rattle.call.specs.declared.Input.{Input}
-use Rattle.private_rows.specs.Phases.{stateNumber, has, stateOf, runningOf, phaseIn}
+use Rattle.private_record.specs.Phases.{stateNumber, has, stateOf, runningOf, phaseIn}
 use Rattle.private_rows.specs.Causes.{privateTimerCause, causeOf, factsOf}
-use Rattle.private_rows.specs.declared.states.Phase.{Phase}
-use Rattle.private_rows.specs.declared.states.PrivateRecord.{PrivateRecord}
+use Rattle.private_record.specs.declared.states.Phase.{Phase}
+use Rattle.private_record.specs.declared.states.PrivateRecord.{PrivateRecord}
 use Rattle.private_rows.specs.declared.causes.Cause.{Cause}
 use Rattle.private_rows.specs.declared.causes.Facts.{Facts}
 use Rattle.private_rows.specs.declared.rows.Row.{Row}

@@ -3,9 +3,7 @@ ghost use mathlib.Core.Path.{_≡_};
 ghost use Rattle.private_rows.specs.Causes.{privateActionCause, actionCause, privateTimerCause, timerCause};
 ghost use Rattle.private_rows.specs.Causes.{setupCause, messageCause, causeOf, sameIdentifier, sameCall};
 ghost use Rattle.private_rows.specs.Causes.{messageSame, sameOf, pckAsked, trusted as trustedBy, factsOf};
-use crate::states::Phase;
-use crate::states::PrivateCall;
-use crate::states::count_of;
+use crate::phases::count_of;
 use call::Action;
 use call::Counters;
 use call::Event;
@@ -19,6 +17,8 @@ use call::Verdicts;
 use call::request_of;
 use frame::Message;
 use frame::Parties;
+use private_record::states::Phase;
+use private_record::states::PrivateCall;
 
 // What happens to a private call, without any fields; what can meet no row is Other.
 pub enum Cause {

@@ -5,7 +5,7 @@ ghost use Rattle.private_rows.specs.Found.{acceptRow, foundAt};
 ghost use Rattle.private_rows.specs.Rows.{rowIn};
 use crate::causes::Cause;
 use crate::causes::Facts;
-use crate::states::Phase;
+use private_record::states::Phase;
 
 // The rows, and Discard where none is met.
 pub enum Row {

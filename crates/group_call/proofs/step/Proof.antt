@@ -2,10 +2,10 @@
 use Prim.Native.Nat.{ℕ}
 use mathlib.Core.Path.{_≡_, sym, ap, _∙_}
 use mathlib.Core.Bool.{Bool}
-use Rattle.call.specs.Numbers.{numberBeforeRow}
-use Rattle.call.specs.Sending.{sendTold, sendBuffer}
-use Rattle.frame.specs.declared.Written.{Written}
-use Rattle.group_rows.specs.Formed.{wellFormed}
+use Rattle.stepping.specs.Numbers.{numberBeforeRow}
+use Rattle.stepping.specs.Sending.{sendTold, sendBuffer}
+use Rattle.writer.specs.declared.Written.{Written}
+use Rattle.group_record.specs.Formed.{wellFormed}
 use Rattle.group_rows.specs.Rows.{rowOf}
 use Rattle.group_call.specs.Carried.{carryOut}
 use Rattle.group_rows.specs.declared.rows.Row.{Row}

@@ -2,10 +2,10 @@
 use Prim.Native.Nat.{ℕ}
 use mathlib.Core.Path.{_≡_, sym, ap, _∙_}
 use mathlib.Core.Bool.{Bool}
-use Rattle.call.specs.Numbers.{numberBeforeRow}
-use Rattle.call.specs.Sending.{sendTold, sendBuffer}
-use Rattle.frame.specs.declared.Written.{Written}
-use Rattle.private_rows.specs.Formed.{wellFormed}
+use Rattle.stepping.specs.Numbers.{numberBeforeRow}
+use Rattle.stepping.specs.Sending.{sendTold, sendBuffer}
+use Rattle.writer.specs.declared.Written.{Written}
+use Rattle.private_record.specs.Formed.{wellFormed}
 use Rattle.private_rows.specs.Rows.{rowOf}
 use Rattle.private_rows.specs.declared.rows.Row.{Row}
 use Rattle.private_effects.specs.Carried.{carryOut}

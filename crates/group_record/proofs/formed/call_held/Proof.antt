@@ -1,0 +1,11 @@
+-- `group_record::formed::call_held` meets its contract: what is known at each return gives the case. Assumes nothing.
+use borrow.Author.Needs.{needs}
+use Rattle.group_record.proofs.formed.call_held.Statement.{statement}
+use Rattle.group_record.proofs.formed.call_held.Tie as tie
+
+pub call-held-spec : {M : Type 1} → statement M
+call-held-spec =
+    tie.close
+    (tie.spec
+    (λ c κs. search needs)
+    (λ c. rw (c .before .before .in-range .ensures)))

@@ -1,0 +1,56 @@
+// Whether the call of a record is good.
+ghost use mathlib.Core.Path.{_≡_};
+ghost use lib.Dec.{eqb};
+ghost use Rattle.group_record.specs.States.{stateNumber};
+ghost use Rattle.group_record.specs.Formed.{callNone, callHeld, callGood};
+use crate::states::State;
+use call::Settings;
+use frame::GroupCall;
+use frame::Media;
+use frame::Message;
+use frame::carried::media_none;
+use frame::range::in_range;
+
+// Every field of the call is 0.
+fn no_call(held: GroupCall, media: Media) -> bool
+    ensures { λ r. ⌜ r ≡ callNone held media ⌝ }
+{
+    (held.identifier == 0)
+        & ((held.group == 0)
+            & ((held.call_type == 0)
+                & ((held.refresh == 0)
+                    & ((held.originator == 0)
+                        & ((held.start == 0)
+                            & ((held.last_change == 0)
+                                & ((held.last_changer == 0) & media_none(media))))))))
+}
+
+// Every field of the call is in range, as in an announcement, and its group is own.
+fn call_held(settings: Settings, held: GroupCall, media: Media) -> bool
+    ensures { λ r. ⌜ r ≡ callHeld settings held media ⌝ }
+{
+    in_range(Message::Announcement(held, 0), media) & (held.group == settings.own_group)
+}
+
+// The state is S1.
+fn start_stop(state: State) -> bool
+    ensures { λ r. ⌜ r ≡ eqb (stateNumber state) 1 ⌝ }
+{
+    match state {
+        State::S1 => true,
+        State::S3 => false,
+        State::S4 => false,
+        State::S5 => false,
+    }
+}
+
+// The call: none in S1, elsewhere one of the own group.
+pub(crate) fn call_good(settings: Settings, state: State, held: GroupCall, media: Media) -> bool
+    ensures { λ r. ⌜ r ≡ callGood settings state held media ⌝ }
+{
+    if start_stop(state) {
+        no_call(held, media)
+    } else {
+        call_held(settings, held, media)
+    }
+}

@@ -1,0 +1,17 @@
+-- `private_record::formed::call_good` meets its contract: what is known at each return gives the case. Assumes nothing.
+use borrow.Author.Tests.{eq-eqb, ne-eqb}
+use borrow.Author.Needs.{needs}
+use Rattle.private_record.proofs.formed.call_good.Statement.{statement}
+use Rattle.private_record.proofs.formed.call_good.Tie as tie
+
+pub call-good-spec : {M : Type 1} → statement M
+call-good-spec =
+    tie.close
+    (tie.spec
+    (λ c κs. search needs)
+    (λ c κs. search needs)
+    (λ c κs. search needs)
+    (λ c κs. search needs)
+    (λ c κs. search needs)
+    (λ c. rw (c .no-call .ensures, c .before .start-stop .ensures, eq-eqb _ _ (c .before .before .if1 .taken)))
+    (λ c. rw (c .role-good .ensures, c .before .one-own .ensures, c .before .before .fields-good .ensures, ne-eqb _ _ (c .before .before .before .if1 .left))))

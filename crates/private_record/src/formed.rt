@@ -1,0 +1,139 @@
+// Whether a record is well formed: its running timers, its counters, its call.
+ghost use mathlib.Core.Path.{_≡_};
+ghost use lib.Dec.{eqb};
+ghost use Rattle.private_record.specs.Phases.{stateNumber, runningOf, phaseIn};
+ghost use Rattle.private_record.specs.Formed.{runningGood, counterGood, countersGood, callNone, oneOwn, roleGood};
+ghost use Rattle.private_record.specs.Formed.{fieldsGood, callGood};
+use crate::states::PrivateCall;
+use crate::states::State;
+use crate::states::Timers;
+use crate::states::same_timers;
+use call::Counters;
+use call::Settings;
+use call::requests::private_request;
+use frame::Message;
+use frame::carried::media_none;
+use frame::range::in_range;
+
+// What runs in a state: of the two timers that may run in P2, and in P5, the one that does.
+fn running_in(state: State, running: Timers) -> Timers
+    ensures { λ r. ⌜ r ≡ runningOf (phaseIn state running) ⌝ }
+{
+    match state {
+        State::P0 => Timers::NONE,
+        State::P1 => Timers::TFP7,
+        State::P2 => if running.tfp1 {
+            Timers::TFP1
+        } else {
+            Timers::TFP2
+        },
+        State::P3 => Timers::TFP3,
+        State::P4 => Timers::TFP5,
+        State::P5 => if running.tfp2 {
+            Timers::TFP2
+        } else {
+            Timers::TFP4
+        },
+    }
+}
+
+// What runs is what the table has for the state.
+pub(crate) fn running_good(state: State, running: Timers) -> bool
+    ensures { λ r. ⌜ r ≡ runningGood state running ⌝ }
+{
+    same_timers(running, running_in(state, running))
+}
+
+// A counter: 1 to its limit while its timer runs, else 0.
+fn counter_good(runs: bool, limit: u8, counter: u8) -> bool
+    ensures { λ r. ⌜ r ≡ counterGood runs limit counter ⌝ }
+{
+    if runs {
+        (1 <= counter) & (counter <= limit)
+    } else {
+        counter == 0
+    }
+}
+
+// The three counters.
+pub(crate) fn counters_good(running: Timers, limits: Counters, counters: Counters) -> bool
+    ensures { λ r. ⌜ r ≡ countersGood running limits counters ⌝ }
+{
+    counter_good(running.tfp1, limits.cfp1, counters.cfp1)
+        & (counter_good(running.tfp3, limits.cfp3, counters.cfp3)
+            & counter_good(running.tfp4, limits.cfp4, counters.cfp4))
+}
+
+// Every field of the call is 0.
+fn no_call(call: PrivateCall) -> bool
+    ensures { λ r. ⌜ r ≡ callNone call ⌝ }
+{
+    let parties = call.parties;
+    let media = call.media;
+    (parties.identifier == 0)
+        & ((parties.caller == 0)
+            & ((parties.callee == 0)
+                & ((call.commencement == 0) & (media_none(media) & (call.pck_id == 0)))))
+}
+
+// Own is the caller or the callee, and not both.
+fn one_own(caller: bool, callee: bool) -> bool
+    ensures { λ r. ⌜ r ≡ oneOwn caller callee ⌝ }
+{
+    (caller & !callee) | (!caller & callee)
+}
+
+// The state is P0.
+fn start_stop(state: State) -> bool
+    ensures { λ r. ⌜ r ≡ eqb (stateNumber state) 0 ⌝ }
+{
+    match state {
+        State::P0 => true,
+        State::P1 => false,
+        State::P2 => false,
+        State::P3 => false,
+        State::P4 => false,
+        State::P5 => false,
+    }
+}
+
+// In P2 own is the caller, in P5 the callee.
+fn role_good(state: State, caller: bool, callee: bool) -> bool
+    ensures { λ r. ⌜ r ≡ roleGood state caller callee ⌝ }
+{
+    match state {
+        State::P0 => true,
+        State::P1 => true,
+        State::P2 => caller,
+        State::P3 => true,
+        State::P4 => true,
+        State::P5 => callee,
+    }
+}
+
+// Every field of the call is in range: it is the call of a setup request.
+fn fields_good(call: PrivateCall) -> bool
+    ensures { λ r. ⌜ r ≡ fieldsGood call ⌝ }
+{
+    let parties = call.parties;
+    let media = call.media;
+    let request = private_request(parties, call.commencement, call.pck_id);
+    let same_parties = request.parties;
+    let setup = request.setup;
+    in_range(Message::SetupRequest(same_parties, setup), media)
+}
+
+// The call: none, in P0 alone; or every field in range, and own the one that it must be.
+pub(crate) fn call_good(settings: Settings, state: State, call: PrivateCall) -> bool
+    ensures { λ r. ⌜ r ≡ callGood settings state call ⌝ }
+{
+    let parties = call.parties;
+    let own = settings.own_user;
+    let caller = parties.caller == own;
+    let callee = parties.callee == own;
+    if parties.identifier == 0 {
+        start_stop(state) & no_call(call)
+    } else {
+        fields_good(call) & (one_own(caller, callee) & role_good(state, caller, callee))
+    }
+}

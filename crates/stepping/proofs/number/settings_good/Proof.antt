@@ -1,0 +1,15 @@
+-- `stepping::number::settings_good` meets its contract: what is known at each return gives the case. Assumes nothing.
+use Rattle.call.specs.Settings.{settingsGood}
+use borrow.Author.Needs.{needs}
+use Rattle.stepping.proofs.number.settings_good.Statement.{statement}
+use Rattle.stepping.proofs.number.settings_good.Tie as tie
+
+pub settings-good-spec : {M : Type 1} → statement M
+unfolding settingsGood
+settings-good-spec =
+    tie.close
+    (tie.spec
+    (λ c κs. search needs)
+    (λ c κs. search needs)
+    (λ c κs. search needs)
+    (λ c. rw (c .limits-good .ensures, c .before .own-good2 .ensures, c .before .before .own-good .ensures)))

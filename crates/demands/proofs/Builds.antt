@@ -1,5 +1,6 @@
 -- Builds that refuse or discard everything, stand still, never vary or make up a row do not go by the rows. Assumes nothing.
 use mathlib.Core.Path.{_≡_, refl, sym, ap, _∙_}
+use mathlib.Core.Logic.{⊎-elim}
 use mathlib.Core.Bool.{true, false, not, true≢false}
 use mathlib.Core.List.{[], _∷_}
 use Prim.Native.Nat.{ℕ, _≤_}
@@ -31,7 +32,10 @@ shuts-out : (M : Machine) (last : ℕ) (s : Settings) (p : M .Stored) → settin
 shuts-out M last s p good formed same =
     record {
       refusing = λ b refuses rows. let h = rows .heeds s p good formed in refuses s p (h .0) lent (h .1 lent roomy .0);
-      unvarying = λ b same rows. let v = rows .varies .0 in v .5 .2 (same (v .0) (v .2) (v .2) (v .3) (v .4) (v .1));
+      unvarying = λ b same rows.
+          let v = rows .varies .0 in
+          ⊎-elim (λ e. v .5 .2 (e (v .0) (v .2) (v .2) (v .3) (v .4) (v .1)))
+          (⊎-elim (λ e. v .5 .3 (e (v .0) (v .2) (v .2) (v .3) (v .4) (v .1))) (λ e. v .5 .4 (e (v .0) (v .2) (v .2) (v .3) (v .4) (v .1)))) same;
       discarding = λ b discards rows. let h = rows .heeds s p good formed in let z = discards s p (h .0) lent in let k = h .1 lent roomy .1 in omega (arith, z, k);
       standingStill = λ b still rows.
           let i = rows .heeds s p good formed .0 in

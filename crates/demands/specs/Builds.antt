@@ -1,5 +1,6 @@
 -- Builds of a call machine that must be shut out. Assumes nothing.
 use mathlib.Core.Path.{_≡_}
+use mathlib.Core.Logic.{_⊎_}
 use mathlib.Core.List.{List}
 use Prim.Native.Nat.{ℕ, _<_}
 use Rattle.call.specs.declared.Settings.{Settings}
@@ -47,10 +48,14 @@ abbrev pub StandsStill : (M : Machine) → BuildOf M → Type 0
 StandsStill M b =
     (s : Settings) (p : M .Stored) (i j : Input) (out next : List ℕ) → let first = b .answer s p i out .next in b .answer s first j next .next ≡ first
 
--- its answer is always the same row
+-- what is looked at is the same from every record and with every input
+abbrev pub AlwaysSame : (M : Machine) {A : Type 0} → (Settings → M .Stored → Input → List ℕ → A) → Type 0
+AlwaysSame M look = (s : Settings) (p q : M .Stored) (i j : Input) (out : List ℕ) → look s p i out ≡ look s q j out
+
+-- its reply never varies: in the row, in the next record, or in what the buffer then holds
 abbrev pub NeverVaries : (M : Machine) → BuildOf M → Type 0
 NeverVaries M b =
-    (s : Settings) (p q : M .Stored) (i j : Input) (out : List ℕ) → b .answer s p i out .row ≡ b .answer s q j out .row
+    AlwaysSame M (λ s p i out. b .answer s p i out .row) ⊎ (AlwaysSame M (λ s p i out. b .answer s p i out .next) ⊎ AlwaysSame M (b .after))
 
 -- it tells a row above the last
 abbrev pub MakesUpRow : (M : Machine) → ℕ → BuildOf M → Type 0

@@ -27,7 +27,7 @@ use Rattle.demands.specs.ExactlyWhen.{ExactlyWhen, SettingOut, Unformed,
 use Rattle.demands.specs.NothingChanges.{StepNothingChanges}
 use Rattle.demands.specs.RowPlays.{Play, play, lent, AllComeOut, plays}
 use Rattle.demands.specs.GroupPlays.{groupPlays}
-use Rattle.demands.specs.Consequences.{KnownRows, RowTold, EveryRowTold, Heeds, NeverStill}
+use Rattle.demands.specs.Consequences.{lastPrivateRow, lastGroupRow, KnownRows, RowTold, EveryRowTold, Heeds, NeverStill}
 use Rattle.demands.proofs.Tables.{below, at}
 use Rattle.demands.proofs.NothingChanges.{step-nothing-changes}
 use Rattle.demands.proofs.ExactlyWhen.{step-exactly-when}
@@ -78,22 +78,22 @@ known-rows M last kept carries known s p i out = go (eqb (M .step s p i out .num
     go false t = let z = kept s p i out .0 (eqb-false _ 0 t) .1 in omega (arith, z)
 
 -- the private rows are R1 to R29
-private-row : (f : Phase) (c : Cause) (x : Facts) → Rows.rowNumber (Rows.rowIn f c x) ≤ 29
+private-row : (f : Phase) (c : Cause) (x : Facts) → Rows.rowNumber (Rows.rowIn f c x) ≤ lastPrivateRow
 unfolding Rows.rowIn
-private-row f c x = leb-true _ 29 (met-passes (λ row. leb (Rows.rowNumber row) 29) PrivateRow.Discard (Rows.rowsAsk f c x) refl refl)
+private-row f c x = leb-true _ lastPrivateRow (met-passes (λ row. leb (Rows.rowNumber row) lastPrivateRow) PrivateRow.Discard (Rows.rowsAsk f c x) refl refl)
 
--- the private call machine has the rows 1 to 29
-pub private-known-rows : KnownRows privateMachine 29
-private-known-rows = known-rows privateMachine 29 step-nothing-changes private-carries-out (λ s p i. private-row _ _ _)
+-- the private call machine tells no other row
+pub private-known-rows : KnownRows privateMachine lastPrivateRow
+private-known-rows = known-rows privateMachine lastPrivateRow step-nothing-changes private-carries-out (λ s p i. private-row _ _ _)
 
 -- the group rows are G1 to G11
-group-row : (f : State) (c : GroupCause.Cause) (x : GroupFacts.Facts) → GroupRows.rowNumber (GroupRows.rowIn f c x) ≤ 11
+group-row : (f : State) (c : GroupCause.Cause) (x : GroupFacts.Facts) → GroupRows.rowNumber (GroupRows.rowIn f c x) ≤ lastGroupRow
 unfolding GroupRows.rowIn
-group-row f c x = leb-true _ 11 (met-passes (λ row. leb (GroupRows.rowNumber row) 11) GroupRow.Discard (GroupRows.rowsAsk f c x) refl refl)
+group-row f c x = leb-true _ lastGroupRow (met-passes (λ row. leb (GroupRows.rowNumber row) lastGroupRow) GroupRow.Discard (GroupRows.rowsAsk f c x) refl refl)
 
--- the group call machine has the rows 1 to 11
-pub group-known-rows : KnownRows groupMachine 11
-group-known-rows = known-rows groupMachine 11 group-step-nothing-changes group-carries-out (λ s g i. group-row _ _ _)
+-- the group call machine tells no other row
+pub group-known-rows : KnownRows groupMachine lastGroupRow
+group-known-rows = known-rows groupMachine lastGroupRow group-step-nothing-changes group-carries-out (λ s g i. group-row _ _ _)
 
 -- ---- every row
 
@@ -132,14 +132,14 @@ every-row-told M told xs out last e zero h k = let z : ⊥ = omega (arith, h) in
 every-row-told M told xs out last e (suc n) h k = played-told M told xs out (suc n) (at last (λ n. isPlayed xs (suc n)) e n (omega (arith, k)))
 
 -- every private row is told
-pub private-every-row : EveryRowTold privateMachine 29
+pub private-every-row : EveryRowTold privateMachine lastPrivateRow
 unfolding below plays
-private-every-row = every-row-told privateMachine step-exactly-when plays plays-come-out 29 refl
+private-every-row = every-row-told privateMachine step-exactly-when plays plays-come-out lastPrivateRow refl
 
 -- every group row is told
-pub group-every-row : EveryRowTold groupMachine 11
+pub group-every-row : EveryRowTold groupMachine lastGroupRow
 unfolding below groupPlays
-group-every-row = every-row-told groupMachine group-step-exactly-when groupPlays group-plays-come-out 11 refl
+group-every-row = every-row-told groupMachine group-step-exactly-when groupPlays group-plays-come-out lastGroupRow refl
 
 -- ---- no standstill
 

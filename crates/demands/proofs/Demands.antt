@@ -5,6 +5,7 @@ use Rattle.frame.proofs.ReadsItsLine.{reads-its-line}
 use Rattle.frame.proofs.OnlyLine.{line-is-the-only-one}
 use Rattle.group_call.specs.Hearing.{Build, promised}
 use Rattle.demands.specs.Machines.{privateMachine, groupMachine}
+use Rattle.demands.specs.Consequences.{lastPrivateRow, lastGroupRow}
 use Rattle.demands.specs.Demands.{NumbersGiven, RefusalsKeep, Demand1, OneLine, ByTheRows, Demand2, Demand3}
 use Rattle.demands.specs.SameCall.{KeepsContract, BestCall, SameCall, AnyOrder}
 use Rattle.demands.proofs.ExactlyWhen.{line-exactly-when, read-exactly-when, write-exactly-when, answer-exactly-when, step-exactly-when}
@@ -58,8 +59,8 @@ demand-1 = record { numbers = exactly-when; keeps = nothing-changes }
 pub one-line : OneLine
 one-line l m media = (line-is-the-only-one l m media, λ h. ap readLine (h .0) ∙ reads-its-line m media (h .1))
 
--- the private call machine goes by its 29 rows
-pub private-by-the-rows : ByTheRows privateMachine 29
+-- the private call machine goes by its rows
+pub private-by-the-rows : ByTheRows privateMachine lastPrivateRow
 private-by-the-rows =
     record {
       rowsHold = rows-hold privateMachine step-exactly-when private-carries-out;
@@ -76,8 +77,8 @@ private-by-the-rows =
       varies = private-varies;
     }
 
--- the group call machine goes by its eleven
-pub group-by-the-rows : ByTheRows groupMachine 11
+-- the group call machine goes by its own
+pub group-by-the-rows : ByTheRows groupMachine lastGroupRow
 group-by-the-rows =
     record {
       rowsHold = rows-hold groupMachine group-step-exactly-when group-carries-out;

@@ -12,6 +12,14 @@ use Rattle.demands.specs.Machines.{Machine}
 
 -- ---- the rows there are
 
+-- R29 is the last of the private rows
+abbrev pub lastPrivateRow : ℕ
+lastPrivateRow = 29
+
+-- G11 is the last of the group rows
+abbrev pub lastGroupRow : ℕ
+lastGroupRow = 11
+
 -- no step tells a row above the last of the list; this shuts out a build with a row of its own
 abbrev pub KnownRows : Machine → ℕ → Type 0
 KnownRows M last = (s : Settings) (p : M .Stored) (i : Input) (out : List ℕ) → M .step s p i out .row ≤ last

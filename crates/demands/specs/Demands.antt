@@ -18,7 +18,7 @@ use Rattle.group_call.specs.Hearing.{Build}
 use Rattle.demands.specs.ExactlyWhen.{GivenExactlyWhen, lineTable, writeTable, answerTable, choiceTable, StepExactlyWhen}
 use Rattle.demands.specs.NothingChanges.{NothingChanges, ReadNothingChanges, ChooseNothingChanges, StepNothingChanges}
 use Rattle.demands.specs.Machines.{Machine, RowsHold, CarriesOut, KeepsWellFormed, SendsGood, TimersAgree, ChangeStops, SparesRanOut, privateMachine, groupMachine}
-use Rattle.demands.specs.Consequences.{KnownRows, EveryRowTold, Heeds, NeverStill, Varies}
+use Rattle.demands.specs.Consequences.{lastPrivateRow, lastGroupRow, KnownRows, EveryRowTold, Heeds, NeverStill, Varies}
 use Rattle.demands.specs.Builds.{BuildOf, builtAs, RefusesAll, DiscardsAll, StandsStill, NeverVaries, MakesUpRow}
 use Rattle.demands.specs.SameCall.{KeepsContract, BestCall, SameCall, AnyOrder}
 
@@ -116,13 +116,13 @@ pub record Demand2 : Type 0 where
   -- one frame, one line
   pub oneLine : OneLine
   -- R1 to R29
-  pub privateRows : ByTheRows privateMachine 29
+  pub privateRows : ByTheRows privateMachine lastPrivateRow
   -- G1 to G11
-  pub groupRows : ByTheRows groupMachine 11
+  pub groupRows : ByTheRows groupMachine lastGroupRow
   -- builds that R1 to R29 shut out
-  pub privateShutsOut : ShutsOut privateMachine 29
+  pub privateShutsOut : ShutsOut privateMachine lastPrivateRow
   -- builds that G1 to G11 shut out
-  pub groupShutsOut : ShutsOut groupMachine 11
+  pub groupShutsOut : ShutsOut groupMachine lastGroupRow
 
 -- ---- Demand 3: two cabs of one group in S3 that know of the same calls end in the same call, the best of them
 

@@ -1,4 +1,4 @@
-// What the private and the group machine share: settings, timers, user actions, events, verdicts, what a step sends.
+// What the private and the group machine share: settings, timers, actions, events, what an event brings, what is sent.
 mod announcements;
 pub mod requests;
 

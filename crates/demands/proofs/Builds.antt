@@ -11,9 +11,9 @@ use Rattle.call.specs.Settings.{settingsGood}
 use Rattle.call.specs.declared.Settings.{Settings}
 use Rattle.private_record.specs.Phases as Phases
 use Rattle.private_record.specs.Formed as Formed
+use Rattle.private_call.proofs.Clearing as Clearing
 use Rattle.group_record.specs.States as GroupStates
 use Rattle.group_record.specs.Formed as GroupFormed
-use Rattle.private_call.proofs.Clearing as Clearing
 use Rattle.group_call.proofs.Steps as GroupSteps
 use Rattle.demands.specs.Machines.{Machine, privateMachine, groupMachine}
 use Rattle.demands.specs.Played.{crew}

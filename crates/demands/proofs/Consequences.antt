@@ -12,13 +12,13 @@ use Rattle.call.specs.Settings.{settingsGood}
 use Rattle.call.specs.Meeting.{firstMet}
 use Rattle.call.specs.declared.Settings.{Settings}
 use Rattle.call.specs.declared.Input.{Input}
-use Rattle.private_rows.specs.Rows as Rows
 use Rattle.private_record.specs.declared.states.Phase.{Phase}
+use Rattle.private_rows.specs.Rows as Rows
 use Rattle.private_rows.specs.declared.causes.Cause.{Cause}
 use Rattle.private_rows.specs.declared.causes.Facts.{Facts}
 use Rattle.private_rows.specs.declared.rows.Row.the-variants as PrivateRow
-use Rattle.group_rows.specs.Rows as GroupRows
 use Rattle.group_record.specs.declared.states.State.{State}
+use Rattle.group_rows.specs.Rows as GroupRows
 use Rattle.group_rows.specs.declared.causes.Cause as GroupCause
 use Rattle.group_rows.specs.declared.causes.Facts as GroupFacts
 use Rattle.group_rows.specs.declared.rows.Row.the-variants as GroupRow

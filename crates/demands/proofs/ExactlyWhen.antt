@@ -15,20 +15,20 @@ use Rattle.frame.specs.Range.{within}
 use Rattle.frame.specs.Frame.{inRange}
 use Rattle.frame.specs.Layout.{digitsOf, lineOf}
 use Rattle.frame.specs.Line.{count, kindAt, unended, undigital, unkind, misfit, unranged, refusalOf, numberOf, readLine, lineNumber}
-use Rattle.writer.specs.Writing.{writeNumber, writtenOf}
 use Rattle.frame.specs.declared.Media.{Media}
 use Rattle.frame.specs.declared.Message.{Message}
 use Rattle.frame.proofs.Judged.{not-all}
 use Rattle.frame.proofs.OnlyLine.{number-read}
+use Rattle.writer.specs.Writing.{writeNumber, writtenOf}
 use Rattle.log.specs.Answer.{answerOf, answerNumber, answerTold}
 use Rattle.call.specs.Settings.{settingsGood}
 use Rattle.call.specs.Request.{requestOf}
-use Rattle.stepping.specs.Numbers.{heardGood, argumentsGood}
 use Rattle.call.specs.declared.Settings.{Settings}
 use Rattle.call.specs.declared.Input.{Input}
+use Rattle.stepping.specs.Numbers.{heardGood, argumentsGood}
+use Rattle.private_record.specs.declared.states.PrivateRecord.{PrivateRecord}
 use Rattle.private_rows.specs.Causes.{sameIdentifier}
 use Rattle.private_rows.specs.Rows.{rowNumber, rowOf}
-use Rattle.private_record.specs.declared.states.PrivateRecord.{PrivateRecord}
 use Rattle.private_rows.specs.declared.rows.Row.the-variants.{R1}
 use Rattle.private_rows.proofs.Meets.{same-row}
 use Rattle.private_call.specs.Step.{identifierTaken}

@@ -12,14 +12,14 @@ use Rattle.call.specs.declared.Input.{Input}
 use Rattle.call.specs.declared.Send.{Send}
 use Rattle.stepping.proofs.Stepping.{SentGood}
 use Rattle.group_record.specs.States.{has}
-use Rattle.group_rows.specs.Rows.{rowNumber, rowOf}
-use Rattle.group_call.specs.Carried.{isLater, runningAfter}
-use Rattle.group_call.specs.Step.{changeTooEarly, doneOf, stepNumber}
 use Rattle.group_record.specs.declared.states.Timers.{Timers}
 use Rattle.group_record.specs.declared.states.GroupRecord.{GroupRecord}
+use Rattle.group_rows.specs.Rows.{rowNumber, rowOf}
 use Rattle.group_rows.specs.declared.rows.Row.the-variants.{G9}
-use Rattle.group_call.specs.declared.Stepped.{Stepped}
 use Rattle.group_rows.proofs.Meets.{same-row}
+use Rattle.group_call.specs.Carried.{isLater, runningAfter}
+use Rattle.group_call.specs.Step.{changeTooEarly, doneOf, stepNumber}
+use Rattle.group_call.specs.declared.Stepped.{Stepped}
 use Rattle.group_call.proofs.Keeping.{has-set, carried-sends-good}
 use Rattle.group_call.proofs.Steps.{number-told, step-number, step-done, step-refused, row-0-keeps, keeps-well-formed, timers-agree}
 use Rattle.group_call.proofs.GeneralRules.{step-change-stops, step-spares-ran-out}

@@ -24,8 +24,8 @@ use Rattle.call.specs.declared.Event.{Event}
 use Rattle.group_order.specs.Order.{isBetter}
 use Rattle.group_order.proofs.Order.{never-itself, asymmetric}
 use Rattle.group_record.specs.Formed.{wellFormed}
-use Rattle.group_rows.specs.Causes.{messageCause, sameIdentifier}
 use Rattle.group_record.specs.declared.states.GroupRecord.{GroupRecord}
+use Rattle.group_rows.specs.Causes.{messageCause, sameIdentifier}
 use Rattle.group_rows.specs.declared.causes.Cause.{Cause}
 use Rattle.group_call.specs.Carried.{changedBy, laterChange}
 use Rattle.group_call.specs.Hearing.{ongoing, inputOf, hears, HeardLine, promised, answerTo, answerHearing}

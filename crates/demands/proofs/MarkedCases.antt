@@ -12,19 +12,19 @@ use Rattle.frame.specs.Digits.{allDigits, inHex, numberAt, allInHex, numbersAt}
 use Rattle.frame.specs.Frame.{partiesGood, setupGood, groupCallGood, acceptanceGood, inRange}
 use Rattle.frame.specs.Layout.{digitsOf, frameInHex, lineOf}
 use Rattle.frame.specs.Line.{messageAt, mediaAt, count, refusalOf, readLine, lineNumber}
-use Rattle.writer.specs.Writing.{writeNumber}
 use Rattle.frame.specs.declared.Media.{Media}
 use Rattle.frame.specs.declared.Message.{Message}
+use Rattle.writer.specs.Writing.{writeNumber}
 use Rattle.call.specs.Settings.{noCounters, settingsGood}
 use Rattle.call.specs.declared.PrivateTimer.{PrivateTimer}
 use Rattle.call.specs.declared.PrivateAction.{PrivateAction}
 use Rattle.private_record.specs.Phases.{has, runningOf, phaseIn}
 use Rattle.private_record.specs.Formed.{wellFormed}
-use Rattle.private_rows.specs.Rows.{rowIn}
 use Rattle.private_record.specs.declared.states.State.{State}
 use Rattle.private_record.specs.declared.states.Phase.{Phase}
 use Rattle.private_record.specs.declared.states.Timers.{Timers}
-use Rattle.private_rows.proofs.WellFormed.{fit}
+use Rattle.private_record.proofs.WellFormed.{fit}
+use Rattle.private_rows.specs.Rows.{rowIn}
 use Rattle.private_effects.specs.Carried.{startedOf, stoppedOf, runningAfter, countersAfter, carryOut}
 use Rattle.private_call.specs.Step.{stepOf}
 use Rattle.private_call.specs.declared.Stepped.{Stepped}
@@ -33,8 +33,8 @@ use Rattle.group_order.specs.Order.{rankOf}
 use Rattle.group_order.proofs.Order.{asymmetric, by-rank, by-identifier}
 use Rattle.chooser.specs.Choice.{choiceOf, choiceNumber}
 use Rattle.group_record.specs.Formed as GroupFormed
-use Rattle.group_rows.specs.Rows as GroupRows
 use Rattle.group_record.specs.declared.states.GroupRecord.{GroupRecord}
+use Rattle.group_rows.specs.Rows as GroupRows
 use Rattle.group_call.specs.Carried as GroupCarried
 use Rattle.group_call.specs.Step as GroupStep
 use Rattle.group_call.specs.Hearing.{hears}

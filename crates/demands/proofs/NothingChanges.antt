@@ -4,21 +4,21 @@ use mathlib.Core.List.{List}
 use Prim.Native.Nat.{ℕ}
 use borrow.Author.Tests.{eq-eqb, ne-eqb}
 use Rattle.frame.specs.Layout.{lineOf}
-use Rattle.writer.specs.Lent.{told, lentAfter}
 use Rattle.frame.specs.Line.{lineNumber, readLine}
-use Rattle.writer.specs.Writing.{writeNumber, writtenOf, bufferOf}
 use Rattle.frame.specs.declared.Media.{Media}
 use Rattle.frame.specs.declared.Message.{Message}
+use Rattle.writer.specs.Lent.{told, lentAfter}
+use Rattle.writer.specs.Writing.{writeNumber, writtenOf, bufferOf}
 use Rattle.log.specs.Answer.{answerOf, answerNumber, answerTold, answerBuffer}
-use Rattle.chooser.proofs.Chosen.{chosen-refused}
-use Rattle.stepping.specs.Sending.{lineSent, sendNumber, sendTold, sendBuffer}
 use Rattle.call.specs.declared.Settings.{Settings}
 use Rattle.call.specs.declared.Input.{Input}
 use Rattle.call.specs.declared.Send.{Send}
+use Rattle.stepping.specs.Sending.{lineSent, sendNumber, sendTold, sendBuffer}
 use Rattle.private_record.specs.declared.states.PrivateRecord.{PrivateRecord}
 use Rattle.private_call.specs.Step.{stepNumber, stepOf, stepBuffer}
 use Rattle.private_call.proofs.Steps.{number-told, row-0-keeps}
 use Rattle.private_call.proofs.MarkedSteps.{line-done}
+use Rattle.chooser.proofs.Chosen.{chosen-refused}
 use Rattle.demands.specs.Machines.{Machine, lineToSend, IsRefused, privateAnswer, privateMachine}
 use Rattle.demands.specs.NothingChanges.{Done, NothingChanges, ReadNothingChanges, ChooseNothingChanges, StepKept, StepNothingChanges}
 

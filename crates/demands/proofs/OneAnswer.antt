@@ -3,19 +3,19 @@ use mathlib.Core.Path.{_≡_, refl, sym, _∙_}
 use contract.Lifetimes as Lifetimes
 use Rattle.frame.proofs.check_line.Reads as check-line
 use Rattle.frame.proofs.read_line.Reads as read-line
-use Rattle.writer.proofs.write_line.Reads as write-line
 use Rattle.frame.proofs.range.in_range.Reads as in-range
 use Rattle.frame.proofs.carried.media_none.Reads as media-none
+use Rattle.writer.proofs.write_line.Reads as write-line
 use Rattle.log.proofs.first_line_length.Reads as first-line-length
 use Rattle.log.proofs.answer_log.Reads as answer-log
-use Rattle.stepping.proofs.number_before_row.Reads as number-before-row
 use Rattle.call.proofs.request_of.Reads as request-of
 use Rattle.call.proofs.requests.private_request.Reads as private-request
 use Rattle.call.proofs.announced_of.Reads as announced-of
+use Rattle.stepping.proofs.number_before_row.Reads as number-before-row
 use Rattle.stepping.proofs.write_sent.Reads as write-sent
 use Rattle.private_record.proofs.well_formed.Reads as well-formed
-use Rattle.private_rows.proofs.row_of.Reads as row-of
 use Rattle.private_record.proofs.states.cleared_record.Reads as cleared-record
+use Rattle.private_rows.proofs.row_of.Reads as row-of
 use Rattle.private_effects.proofs.carry_out.Reads as carry-out
 use Rattle.private_call.proofs.step.Reads as step
 use Rattle.group_order.proofs.rank.Reads as rank
@@ -24,8 +24,8 @@ use Rattle.chooser.proofs.choose_number.Reads as choose-number
 use Rattle.chooser.proofs.choose.Reads as choose
 use Rattle.chooser.specs.Choice.{place}
 use Rattle.group_record.proofs.well_formed.Reads as group-well-formed
-use Rattle.group_rows.proofs.row_of.Reads as group-row-of
 use Rattle.group_record.proofs.states.cleared_record.Reads as group-cleared-record
+use Rattle.group_rows.proofs.row_of.Reads as group-row-of
 use Rattle.group_call.proofs.step.Reads as group-step
 use Rattle.demands.specs.OneAnswer.{OneAnswer}
 
@@ -47,10 +47,6 @@ check-line-one κs = result-alone (λ a. tt) (λ a r q s t x y. same x y)
 pub read-line-one : (κs : Lifetimes.Lfts 1) → OneAnswer (read-line.Asked κs) (read-line.Learnt κs) (λ r. r) (λ t. tt {0})
 read-line-one κs = result-alone (λ a. tt) (λ a r q s t x y. same x y)
 
--- the number and length of a written line, and the buffer
-pub write-line-one : (κs : Lifetimes.Lfts 1) → OneAnswer (write-line.Asked κs) (write-line.Learnt κs) (λ r. r) (λ t. t .1 .1 .0 .now)
-write-line-one κs = record { asksNothing = λ a. tt; oneResult = λ a r q s t x y. same (x .0) (y .0); oneExit = λ a r q s t x y. same (x .1 .0) (y .1 .0) }
-
 -- whether a frame is in range
 pub in-range-one : (κs : Lifetimes.Lfts 0) → OneAnswer (in-range.Asked κs) (in-range.Learnt κs) (λ r. r) (λ t. tt {0})
 in-range-one κs = result-alone (λ a. tt) (λ a r q s t x y. same x y)
@@ -59,6 +55,10 @@ in-range-one κs = result-alone (λ a. tt) (λ a r q s t x y. same x y)
 pub media-none-one : (κs : Lifetimes.Lfts 0) → OneAnswer (media-none.Asked κs) (media-none.Learnt κs) (λ r. r) (λ t. tt {0})
 media-none-one κs = result-alone (λ a. tt) (λ a r q s t x y. same x y)
 
+-- the number and length of a written line, and the buffer
+pub write-line-one : (κs : Lifetimes.Lfts 1) → OneAnswer (write-line.Asked κs) (write-line.Learnt κs) (λ r. r) (λ t. t .1 .1 .0 .now)
+write-line-one κs = record { asksNothing = λ a. tt; oneResult = λ a r q s t x y. same (x .0) (y .0); oneExit = λ a r q s t x y. same (x .1 .0) (y .1 .0) }
+
 -- the length of a log's first line
 pub first-line-length-one : (κs : Lifetimes.Lfts 1) → OneAnswer (first-line-length.Asked κs) (first-line-length.Learnt κs) (λ r. r) (λ t. tt {0})
 first-line-length-one κs = result-alone (λ a. tt) (λ a r q s t x y. same (x .0) (y .0))
@@ -66,10 +66,6 @@ first-line-length-one κs = result-alone (λ a. tt) (λ a r q s t x y. same (x .
 -- the number and length of a log's answer, and the buffer
 pub answer-log-one : (κs : Lifetimes.Lfts 2) → OneAnswer (answer-log.Asked κs) (answer-log.Learnt κs) (λ r. r) (λ t. t .1 .0 .now)
 answer-log-one κs = record { asksNothing = λ a. tt; oneResult = λ a r q s t x y. same (x .0) (y .0); oneExit = λ a r q s t x y. same (x .1 .0) (y .1 .0) }
-
--- the number that a step gives before it looks for a row
-pub number-before-row-one : (κs : Lifetimes.Lfts 0) → OneAnswer (number-before-row.Asked κs) (number-before-row.Learnt κs) (λ r. r) (λ t. tt {0})
-number-before-row-one κs = result-alone (λ a. tt) (λ a r q s t x y. same x y)
 
 -- the setup request that an event brings
 pub request-of-one : (κs : Lifetimes.Lfts 0) → OneAnswer (request-of.Asked κs) (request-of.Learnt κs) (λ r. r) (λ t. tt {0})
@@ -83,6 +79,10 @@ private-request-one κs = result-alone (λ a. tt) (λ a r q s t x y. same x y)
 pub announced-of-one : (κs : Lifetimes.Lfts 0) → OneAnswer (announced-of.Asked κs) (announced-of.Learnt κs) (λ r. r) (λ t. tt {0})
 announced-of-one κs = result-alone (λ a. tt) (λ a r q s t x y. same x y)
 
+-- the number that a step gives before it looks for a row
+pub number-before-row-one : (κs : Lifetimes.Lfts 0) → OneAnswer (number-before-row.Asked κs) (number-before-row.Learnt κs) (λ r. r) (λ t. tt {0})
+number-before-row-one κs = result-alone (λ a. tt) (λ a r q s t x y. same x y)
+
 -- the number and length of what a step sends, and the buffer
 pub write-sent-one : (κs : Lifetimes.Lfts 1) → OneAnswer (write-sent.Asked κs) (write-sent.Learnt κs) (λ r. r) (λ t. t .1 .1 .0 .now)
 write-sent-one κs = record { asksNothing = λ a. tt; oneResult = λ a r q s t x y. same (x .0) (y .0); oneExit = λ a r q s t x y. same (x .1) (y .1) }
@@ -91,13 +91,13 @@ write-sent-one κs = record { asksNothing = λ a. tt; oneResult = λ a r q s t x
 pub well-formed-one : (κs : Lifetimes.Lfts 0) → OneAnswer (well-formed.Asked κs) (well-formed.Learnt κs) (λ r. r) (λ t. tt {0})
 well-formed-one κs = result-alone (λ a. tt) (λ a r q s t x y. same x y)
 
--- the row that an event meets
-pub row-of-one : (κs : Lifetimes.Lfts 0) → OneAnswer (row-of.Asked κs) (row-of.Learnt κs) (λ r. r) (λ t. tt {0})
-row-of-one κs = result-alone (λ a. tt) (λ a r q s t x y. same x y)
-
 -- the cleared record
 pub cleared-record-one : (κs : Lifetimes.Lfts 0) → OneAnswer (cleared-record.Asked κs) (cleared-record.Learnt κs) (λ r. r) (λ t. tt {0})
 cleared-record-one κs = result-alone (λ a. tt) (λ a r q s t x y. same x y)
+
+-- the row that an event meets
+pub row-of-one : (κs : Lifetimes.Lfts 0) → OneAnswer (row-of.Asked κs) (row-of.Learnt κs) (λ r. r) (λ t. tt {0})
+row-of-one κs = result-alone (λ a. tt) (λ a r q s t x y. same x y)
 
 -- what carrying out a row gives
 pub carry-out-one : (κs : Lifetimes.Lfts 0) → OneAnswer (carry-out.Asked κs) (carry-out.Learnt κs) (λ r. r) (λ t. tt {0})
@@ -127,13 +127,13 @@ choose-one κs = result-alone (λ a. tt) (λ a r q s t x y. same x y)
 pub group-well-formed-one : (κs : Lifetimes.Lfts 0) → OneAnswer (group-well-formed.Asked κs) (group-well-formed.Learnt κs) (λ r. r) (λ t. tt {0})
 group-well-formed-one κs = result-alone (λ a. tt) (λ a r q s t x y. same x y)
 
--- the group row that an event meets
-pub group-row-of-one : (κs : Lifetimes.Lfts 0) → OneAnswer (group-row-of.Asked κs) (group-row-of.Learnt κs) (λ r. r) (λ t. tt {0})
-group-row-of-one κs = result-alone (λ a. tt) (λ a r q s t x y. same x y)
-
 -- the cleared group record
 pub group-cleared-record-one : (κs : Lifetimes.Lfts 0) → OneAnswer (group-cleared-record.Asked κs) (group-cleared-record.Learnt κs) (λ r. r) (λ t. tt {0})
 group-cleared-record-one κs = result-alone (λ a. tt) (λ a r q s t x y. same x y)
+
+-- the group row that an event meets
+pub group-row-of-one : (κs : Lifetimes.Lfts 0) → OneAnswer (group-row-of.Asked κs) (group-row-of.Learnt κs) (λ r. r) (λ t. tt {0})
+group-row-of-one κs = result-alone (λ a. tt) (λ a r q s t x y. same x y)
 
 -- the answer of a step of the group call machine, and the buffer
 pub group-step-one : (κs : Lifetimes.Lfts 1) → OneAnswer (group-step.Asked κs) (group-step.Learnt κs) (λ r. r) (λ t. t .1 .1 .1 .0 .now)

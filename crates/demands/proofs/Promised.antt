@@ -2,17 +2,17 @@
 use mathlib.Core.Path.{_≡_}
 use contract.Lifetimes as Lifetimes
 use Rattle.frame.specs.Line.{readLine, lineNumber}
-use Rattle.writer.specs.Writing.{writtenOf, bufferOf}
 use Rattle.frame.proofs.check_line.Reads as check-line
 use Rattle.frame.proofs.read_line.Reads as read-line
+use Rattle.writer.specs.Writing.{writtenOf, bufferOf}
 use Rattle.writer.proofs.write_line.Reads as write-line
 use Rattle.log.specs.Answer.{answerTold, answerBuffer}
 use Rattle.log.proofs.answer_log.Reads as answer-log
+use Rattle.private_call.specs.Step.{stepOf, stepBuffer}
+use Rattle.private_call.proofs.step.Reads as step
 use Rattle.chooser.specs.Choice.{choiceOf, choiceNumber, place, placeOf}
 use Rattle.chooser.proofs.choose_number.Reads as choose-number
 use Rattle.chooser.proofs.choose.Reads as choose
-use Rattle.private_call.specs.Step.{stepOf, stepBuffer}
-use Rattle.private_call.proofs.step.Reads as step
 use Rattle.group_call.specs.Step as GroupStep
 use Rattle.group_call.proofs.step.Reads as group-step
 

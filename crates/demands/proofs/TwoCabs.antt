@@ -20,9 +20,9 @@ use Rattle.call.specs.Settings.{settingsGood}
 use Rattle.call.specs.declared.Settings.{Settings}
 use Rattle.call.specs.declared.Verdicts.{Verdicts}
 use Rattle.group_record.specs.Formed.{wellFormed}
-use Rattle.group_rows.specs.Rows.{rowIn}
 use Rattle.group_record.specs.declared.states.State.{State}
 use Rattle.group_record.specs.declared.states.GroupRecord.{GroupRecord}
+use Rattle.group_rows.specs.Rows.{rowIn}
 use Rattle.group_call.specs.Carried.{stoppedOf, runningAfter, carryOut}
 use Rattle.group_call.specs.Step.{stepOf, stepBuffer}
 use Rattle.group_call.specs.Hearing.{HeardLine, Build, promised, answerTo, hear, hearAll}

@@ -18,9 +18,9 @@ use Rattle.private_record.specs.declared.states.Phase.{Phase}
 use Rattle.private_record.specs.declared.states.PrivateRecord.{PrivateRecord}
 use Rattle.group_record.specs.States.{tfg4, tfg2And6}
 use Rattle.group_record.specs.Formed.{clearedRecord, wellFormed}
-use Rattle.group_rows.specs.Rows.{rowIn}
 use Rattle.group_record.specs.declared.states.State.{State}
 use Rattle.group_record.specs.declared.states.GroupRecord.{GroupRecord}
+use Rattle.group_rows.specs.Rows.{rowIn}
 use Rattle.group_call.specs.Carried.{stoppedOf, runningAfter, carryOut}
 use Rattle.group_call.specs.Step.{stepOf, stepBuffer}
 use Rattle.demands.specs.Machines.{Answer, Machine, privateMachine, groupMachine}

@@ -7,13 +7,13 @@ use Prim.Native.Nat.{ℕ}
 use Rattle.frame.specs.Frame.{GoodFrame}
 use Rattle.frame.specs.Layout.{lineOf}
 use Rattle.frame.specs.Line.{numberOf, reading, readLine, lineNumber}
-use Rattle.writer.specs.Writing.{writtenOf, bufferOf}
 use Rattle.frame.specs.declared.Media.{Media}
 use Rattle.frame.specs.declared.Message.{Message}
+use Rattle.writer.specs.Writing.{writtenOf, bufferOf}
 use Rattle.log.specs.Answer.{answerOf, answerTold, answerBuffer}
-use Rattle.chooser.specs.Choice.{choiceNumber}
-use Rattle.stepping.specs.Sending.{lineSent, sendTold, sendBuffer}
 use Rattle.call.specs.declared.Send.{Send}
+use Rattle.stepping.specs.Sending.{lineSent, sendTold, sendBuffer}
+use Rattle.chooser.specs.Choice.{choiceNumber}
 use Rattle.group_call.specs.Hearing.{Build}
 use Rattle.demands.specs.ExactlyWhen.{GivenExactlyWhen, lineTable, writeTable, answerTable, choiceTable, StepExactlyWhen}
 use Rattle.demands.specs.NothingChanges.{NothingChanges, ReadNothingChanges, ChooseNothingChanges, StepNothingChanges}

@@ -11,11 +11,11 @@ use Rattle.frame.specs.Line.{messageAt, mediaAt, kindAt, lineNumber}
 use Rattle.frame.specs.declared.Media.{Media}
 use Rattle.frame.specs.declared.Message.{Message}
 use Rattle.log.specs.Answer.{answerOf}
-use Rattle.chooser.specs.NoChoice.{NoChoice}
 use Rattle.call.specs.Settings.{settingsGood}
-use Rattle.stepping.specs.Numbers.{heardGood, argumentsGood}
 use Rattle.call.specs.declared.Settings.{Settings}
 use Rattle.call.specs.declared.Input.{Input}
+use Rattle.stepping.specs.Numbers.{heardGood, argumentsGood}
+use Rattle.chooser.specs.NoChoice.{NoChoice}
 use Rattle.demands.specs.Totals.{totals}
 use Rattle.demands.specs.Machines.{Machine, lineToSend}
 

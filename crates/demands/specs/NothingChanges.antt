@@ -4,12 +4,12 @@ use mathlib.Core.List.{List, []}
 use Prim.Native.Nat.{ℕ}
 use lib.ListN.{length}
 use denote.Ref.{RefT}
-use Rattle.writer.specs.Lent.{atFront}
 use Rattle.frame.specs.Line.{lineNumber, readLine, refusal}
+use Rattle.writer.specs.Lent.{atFront}
 use Rattle.writer.specs.declared.Written.{Written}
-use Rattle.chooser.specs.Choice.{choiceOf, choiceNumber, placeOf}
 use Rattle.call.specs.declared.Settings.{Settings}
 use Rattle.call.specs.declared.Input.{Input}
+use Rattle.chooser.specs.Choice.{choiceOf, choiceNumber, placeOf}
 use Rattle.demands.specs.Machines.{Answer, Machine, lineToSend}
 
 -- ---- a text written into a lent buffer

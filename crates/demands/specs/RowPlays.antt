@@ -4,9 +4,9 @@ use mathlib.Core.List.{List, [], _∷_}
 use Prim.Native.Nat.{ℕ}
 use Prim.Native.String.{String}
 use lib.ListN.{length, replicate}
-use Rattle.writer.specs.Lent.{atFront}
 use Rattle.frame.specs.Layout.{longestLine}
 use Rattle.frame.specs.declared.Message.the-variants.{Ringing, Accept, Reject, Release, ReleaseAck, AcceptAck}
+use Rattle.writer.specs.Lent.{atFront}
 use Rattle.call.specs.Settings.{noCounters}
 use Rattle.call.specs.declared.Settings.{Settings}
 use Rattle.call.specs.declared.PrivateTimer.{PrivateTimer}

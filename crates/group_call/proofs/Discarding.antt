@@ -9,15 +9,15 @@ use Rattle.call.specs.declared.Input.{Input}
 use Rattle.call.specs.declared.Send.{Send}
 use Rattle.call.proofs.Timing.{stops-none}
 use Rattle.group_record.specs.States.{stateNumber, noTimer, runningOf}
-use Rattle.group_rows.specs.Causes.{causeOf, factsOf}
-use Rattle.group_rows.specs.Rows.{rowOf}
-use Rattle.group_call.specs.Carried.{ranOut, changes, stoppedOf, runningAfter, stoppedBy, runningBy, carryOut}
-use Rattle.group_call.specs.Effects.{effectOf}
 use Rattle.group_record.specs.declared.states.State.{State}
 use Rattle.group_record.specs.declared.states.Timers.{Timers}
 use Rattle.group_record.specs.declared.states.GroupRecord.{GroupRecord}
+use Rattle.group_rows.specs.Causes.{causeOf, factsOf}
+use Rattle.group_rows.specs.Rows.{rowOf}
 use Rattle.group_rows.specs.declared.causes.Cause.{Cause}
 use Rattle.group_rows.specs.declared.rows.Row.the-variants.{Discard}
+use Rattle.group_call.specs.Carried.{ranOut, changes, stoppedOf, runningAfter, stoppedBy, runningBy, carryOut}
+use Rattle.group_call.specs.Effects.{effectOf}
 use Rattle.group_call.specs.declared.settled.Carried.{Carried}
 use Rattle.group_call.proofs.Brought.{outOf, ran-out-of}
 use Rattle.group_call.proofs.Settling.{less, Sound, rows-sound}

@@ -10,22 +10,22 @@ use Rattle.frame.specs.Number.{firstGiven}
 use Rattle.frame.specs.Layout.{longestLine}
 use Rattle.writer.specs.Lent.{atFront, lentAfter}
 use Rattle.call.specs.Settings.{settingsGood}
-use Rattle.stepping.specs.Sending.{lineSent, sendNumber, numberSending}
 use Rattle.call.specs.declared.Settings.{Settings}
 use Rattle.call.specs.declared.Input.{Input}
+use Rattle.stepping.specs.Sending.{lineSent, sendNumber, numberSending}
 use Rattle.stepping.proofs.Stepping.{Taken, SentGood, number-passed, tableTests, number-of-table, number-of-tests}
 use Rattle.stepping.proofs.Stepping as stepping
 use Rattle.stepping.proofs.Answers.{by-cases}
 use Rattle.group_record.specs.Formed.{clearedRecord, wellFormed}
-use Rattle.group_rows.specs.Rows.{rowNumber, rowOf}
-use Rattle.group_call.specs.Carried.{ranOut, runningAfter, carryOut}
-use Rattle.group_call.specs.Step.{changeTooEarly, numberBeforeSending, doneOf, stepLine, stepNumber, refusedOf, movedOf, discarded, stepOf, stepBuffer}
 use Rattle.group_record.specs.declared.states.GroupRecord.{GroupRecord}
+use Rattle.group_rows.specs.Rows.{rowNumber, rowOf}
 use Rattle.group_rows.specs.declared.rows.Row.{Row}
 use Rattle.group_rows.specs.declared.rows.Row.the-variants.{Discard}
+use Rattle.group_rows.proofs.Meets.{same-row}
+use Rattle.group_call.specs.Carried.{ranOut, runningAfter, carryOut}
+use Rattle.group_call.specs.Step.{changeTooEarly, numberBeforeSending, doneOf, stepLine, stepNumber, refusedOf, movedOf, discarded, stepOf, stepBuffer}
 use Rattle.group_call.specs.declared.settled.Carried.{Carried}
 use Rattle.group_call.specs.declared.Stepped.{Stepped}
-use Rattle.group_rows.proofs.Meets.{same-row}
 use Rattle.group_call.proofs.Keeping.{fit, carried-well-formed, carried-sends-good}
 use Rattle.group_call.proofs.Discarding.{carried-nothing}
 

@@ -16,11 +16,11 @@ use Rattle.call.specs.declared.Input.{Input}
 use Rattle.stepping.proofs.Stepping.{Taken, tests-pass}
 use Rattle.group_record.specs.States.{has}
 use Rattle.group_record.specs.Formed.{wellFormed}
-use Rattle.group_rows.specs.Causes.{groupTimerCause, causeOf, factsOf}
-use Rattle.group_rows.specs.Rows.{rowNumber, runs, rowIn, rowOf}
 use Rattle.group_record.specs.declared.states.State.{State}
 use Rattle.group_record.specs.declared.states.Timers.{Timers}
 use Rattle.group_record.specs.declared.states.GroupRecord.{GroupRecord}
+use Rattle.group_rows.specs.Causes.{groupTimerCause, causeOf, factsOf}
+use Rattle.group_rows.specs.Rows.{rowNumber, runs, rowIn, rowOf}
 use Rattle.group_rows.specs.declared.causes.Cause.{Cause}
 use Rattle.group_rows.specs.declared.causes.Facts.{Facts}
 use Rattle.group_rows.specs.declared.rows.Row.{Row}

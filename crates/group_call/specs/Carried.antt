@@ -17,11 +17,11 @@ use Rattle.call.specs.declared.Input.{Input}
 use Rattle.call.specs.declared.Announced.{Announced}
 use Rattle.call.specs.declared.Send.{Send}
 use Rattle.group_record.specs.States.{stateNumber, has, setOf, noTimer, tfg2, tfg4, tfg6}
-use Rattle.group_call.specs.Effects.{effectOf}
 use Rattle.group_record.specs.declared.states.State.{State}
 use Rattle.group_record.specs.declared.states.Timers.{Timers}
 use Rattle.group_record.specs.declared.states.GroupRecord.{GroupRecord}
 use Rattle.group_rows.specs.declared.rows.Row.{Row}
+use Rattle.group_call.specs.Effects.{effectOf}
 use Rattle.group_call.specs.declared.effects.Hold.{Hold}
 use Rattle.group_call.specs.declared.effects.Say.{Say}
 use Rattle.group_call.specs.declared.effects.Effect.{Effect}

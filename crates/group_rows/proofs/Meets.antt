@@ -6,9 +6,9 @@ use lib.ListN.{getD}
 use lib.Dec.{eqb}
 use Rattle.call.proofs.Laws.{by-number}
 use Rattle.call.specs.Meeting.{firstMet, oneMet}
+use Rattle.group_record.specs.declared.states.State.{State}
 use Rattle.group_rows.specs.Rows.{rowNumber, rowsAsk, rowIn}
 use Rattle.group_rows.specs.Found.{atOf, foundAt}
-use Rattle.group_record.specs.declared.states.State.{State}
 use Rattle.group_rows.specs.declared.causes.Cause.{Cause}
 use Rattle.group_rows.specs.declared.causes.Facts.{Facts}
 use Rattle.group_rows.specs.declared.rows.Row.{Row}

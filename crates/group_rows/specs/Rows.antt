@@ -9,9 +9,9 @@ use Rattle.call.specs.declared.Settings.{Settings}
 use Rattle.call.specs.declared.GroupTimer.{GroupTimer}
 use Rattle.call.specs.declared.Event.{Event}
 use Rattle.group_record.specs.States.{stateNumber, has, runningOf}
-use Rattle.group_rows.specs.Causes.{groupTimerCause, causeOf, factsOf}
 use Rattle.group_record.specs.declared.states.State.{State}
 use Rattle.group_record.specs.declared.states.GroupRecord.{GroupRecord}
+use Rattle.group_rows.specs.Causes.{groupTimerCause, causeOf, factsOf}
 use Rattle.group_rows.specs.declared.causes.Cause.{Cause}
 use Rattle.group_rows.specs.declared.causes.Facts.{Facts}
 use Rattle.group_rows.specs.declared.rows.Row.{Row}

@@ -10,9 +10,8 @@ use native.Mathlib.Omega.{arith}
 use lib.ListN.{length, take, drop, getD, length-append, drop-of-length-le}
 use lib.Seq.{length-take-le, take-append-seam, drop-append-seam, drop-cons}
 use borrow.Author.Tests.{not-true}
-use Rattle.writer.specs.Lent.{CutPlace}
 use Rattle.frame.proofs.Laws.{and-split, or-cases, or-none, or-split}
-use Rattle.log.specs.Lines.{isEnd, ahead, linesOf, joined, firstLine, afterFirst, endWithin, WithoutEnd, endedLine, unendedPiece, cutAtEnds}
+use Rattle.log.specs.Lines.{isEnd, ahead, linesOf, joined, firstLine, afterFirst, endWithin, WithoutEnd, endedLine, unendedPiece, cutAtEnds, CutPlace}
 
 -- ---- joined
 

@@ -7,8 +7,9 @@ use native.Mathlib.Omega.{arith}
 use lib.Dec.{leb}
 use lib.ListN.{length, drop, length-append}
 use borrow.Author.Tests.{leb-true, leb-false, lt-ltb, le-ltb}
-use Rattle.writer.specs.Lent.{atFront, CutPlace}
+use Rattle.writer.specs.Lent.{atFront}
 use Rattle.writer.specs.declared.Written.{Written}
+use Rattle.log.specs.Lines.{CutPlace}
 use Rattle.log.specs.Answer.{answerOf, answerNumber, answerTold, answerBuffer}
 use Rattle.log.proofs.Lines.{cut-place}
 use Rattle.log.proofs.LineByLine.{answer-within}

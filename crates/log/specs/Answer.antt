@@ -6,8 +6,8 @@ use mathlib.Core.Bool.{cond}
 use lib.ListN.{length}
 use lib.Dec.{ltb, eqb}
 use Rattle.frame.specs.Number.{firstGiven}
-use Rattle.writer.specs.Lent.{told, lentAfter}
 use Rattle.frame.specs.Line.{lineNumber}
+use Rattle.writer.specs.Lent.{told, lentAfter}
 use Rattle.writer.specs.declared.Written.{Written}
 use Rattle.log.specs.Lines.{linesOf, joined}
 

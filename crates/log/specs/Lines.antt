@@ -3,7 +3,7 @@ use Prim.Native.Nat.{ℕ, zero, suc, _+_, _≤_}
 use mathlib.Core.Path.{_≡_}
 use mathlib.Core.List.{List, [], _∷_, flatten}
 use mathlib.Core.Bool.{Bool, true, false, not, cond, _&&_, _||_}
-use lib.ListN.{length, getD}
+use lib.ListN.{length, take, getD}
 use lib.Dec.{eqb}
 
 -- the byte that ends a line
@@ -74,3 +74,9 @@ endWithin (suc n) log at = endWithin n log at || isEnd (getD log (at + n) 0)
 -- no line ends within the first n bytes, and so many there are
 abbrev pub WithoutEnd : ℕ → List ℕ → Type 0
 WithoutEnd n log = (n ≤ length log) × (endWithin n log 0 ≡ false)
+
+-- ---- where a log or a buffer is cut
+
+-- bytes can be cut behind the first n; the second part follows from the first, and a caller who cuts there is asked for both
+abbrev pub CutPlace : ℕ → List ℕ → Type 0
+CutPlace n l = (n ≤ length l) × (n ≡ length (take n l))

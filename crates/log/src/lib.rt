@@ -5,8 +5,7 @@ mod eights;
 use writer::Written;
 ghost use mathlib.Core.Path.{_≡_};
 ghost use lib.ListN.{length};
-ghost use Rattle.writer.specs.Lent.{CutPlace};
-ghost use Rattle.log.specs.Lines.{firstLine};
+ghost use Rattle.log.specs.Lines.{firstLine, CutPlace};
 ghost use Rattle.log.specs.Answer.{answerTold, answerBuffer};
 
 // The length of the first line of a part of a log, its end included; of the whole part where no line ends in it, so 0

@@ -4,14 +4,14 @@ use mathlib.Core.Path.{_≡_, ap, _∙_}
 use mathlib.Core.List.{List}
 use mathlib.Core.Bool.{Bool, true, false}
 use lib.ListN.{length}
-use Rattle.stepping.specs.Numbers.{numberBeforeRow}
-use Rattle.stepping.specs.Sending.{sendNumber, sendTold, sendBuffer}
 use Rattle.call.specs.declared.Settings.{Settings}
 use Rattle.call.specs.declared.Input.{Input}
+use Rattle.stepping.specs.Numbers.{numberBeforeRow}
+use Rattle.stepping.specs.Sending.{sendNumber, sendTold, sendBuffer}
 use Rattle.stepping.proofs.Answers as answers
 use Rattle.private_record.specs.Formed.{wellFormed}
-use Rattle.private_rows.specs.Rows.{rowOf}
 use Rattle.private_record.specs.declared.states.PrivateRecord.{PrivateRecord}
+use Rattle.private_rows.specs.Rows.{rowOf}
 use Rattle.private_call.specs.Step.{identifierTaken, doneOf, stepLine, refusedOf, movedOf, stepOf, stepBuffer}
 use Rattle.private_call.specs.declared.Stepped.{Stepped}
 

@@ -11,7 +11,6 @@ use Rattle.frame.specs.declared.Parties.{Parties}
 use Rattle.frame.specs.declared.Message.the-variants.{SetupRequest, Ringing, Accept, Reject, Release, ReleaseAck, AcceptAck, Announcement, GroupAccept}
 use Rattle.frame.proofs.Laws.{and-split}
 use Rattle.call.specs.Request.{asMessage, startRequest, requestOf}
-use Rattle.stepping.specs.Numbers.{heardGood, argumentsGood}
 use Rattle.call.specs.declared.Settings.{Settings}
 use Rattle.call.specs.declared.PrivateTimer.{PrivateTimer}
 use Rattle.call.specs.declared.Timer.{Timer}
@@ -19,10 +18,11 @@ use Rattle.call.specs.declared.PrivateAction.{PrivateAction}
 use Rattle.call.specs.declared.Action.{Action}
 use Rattle.call.specs.declared.Event.{Event}
 use Rattle.call.specs.declared.Request.{Request}
+use Rattle.stepping.specs.Numbers.{heardGood, argumentsGood}
 use Rattle.private_record.specs.Phases.{noTimer, tfp1, tfp2, tfp3, tfp4, tfp5, tfp7}
+use Rattle.private_record.specs.declared.states.Timers.{Timers}
 use Rattle.private_rows.specs.Causes.{setupCause, causeOf}
 use Rattle.private_rows.specs.Rows.{sameCause}
-use Rattle.private_record.specs.declared.states.Timers.{Timers}
 use Rattle.private_rows.specs.declared.causes.Cause.{Cause}
 use Rattle.private_effects.specs.Carried.{ranOut}
 

@@ -9,17 +9,17 @@ use Rattle.call.specs.declared.Settings.{Settings}
 use Rattle.call.specs.declared.Input.{Input}
 use Rattle.call.specs.declared.Send.{Send}
 use Rattle.call.proofs.Timing.{stops-none}
-use Rattle.private_record.specs.Phases.{stateNumber, noTimer, runningOf}
+use Rattle.private_record.specs.Phases.{stateNumber, noTimer, runningOf, phaseOf}
 use Rattle.private_record.specs.Formed.{counterGood, countersGood}
-use Rattle.private_rows.specs.Causes.{causeOf, factsOf}
-use Rattle.private_rows.specs.Rows.{phaseOf, rowOf}
 use Rattle.private_record.specs.declared.states.State.{State}
 use Rattle.private_record.specs.declared.states.Timers.{Timers}
 use Rattle.private_record.specs.declared.states.Phase.{Phase}
 use Rattle.private_record.specs.declared.states.PrivateRecord.{PrivateRecord}
+use Rattle.private_record.proofs.WellFormed.{same-timers, Fit}
+use Rattle.private_rows.specs.Causes.{causeOf, factsOf}
+use Rattle.private_rows.specs.Rows.{rowOf}
 use Rattle.private_rows.specs.declared.causes.Cause.{Cause}
 use Rattle.private_rows.specs.declared.rows.Row.the-variants.{Discard}
-use Rattle.private_rows.proofs.WellFormed.{same-timers, Fit}
 use Rattle.private_effects.specs.Effects.{effectOf}
 use Rattle.private_effects.specs.Carried.{ranOut, changes, startedOf, stoppedOf, runningAfter, counterAfter, countersAfter, startedBy, stoppedBy, runningBy, carryOut}
 use Rattle.private_effects.specs.declared.Carried.{Carried}

@@ -16,9 +16,9 @@ use Rattle.call.specs.declared.Settings.{Settings}
 use Rattle.call.specs.declared.Request.{Request}
 use Rattle.call.proofs.Laws.{both, bothBools, at-bool}
 use Rattle.private_record.specs.Formed.{callNone, callRequest, fieldsGood, oneOwn, roleGood, usersGood, usersOf, callGood}
-use Rattle.private_rows.specs.Rows.{sameCause}
 use Rattle.private_record.specs.declared.states.State.{State}
 use Rattle.private_record.specs.declared.states.PrivateCall.{PrivateCall}
+use Rattle.private_rows.specs.Rows.{sameCause}
 use Rattle.private_rows.specs.declared.causes.Cause.{Cause}
 use Rattle.private_effects.specs.Carried.{callOf, withMedia, heldOf}
 use Rattle.private_effects.specs.declared.effects.Hold.{Hold}

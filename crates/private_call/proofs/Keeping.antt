@@ -15,18 +15,18 @@ use Rattle.call.specs.declared.Input.{Input}
 use Rattle.call.specs.declared.Request.{Request}
 use Rattle.call.proofs.Laws.{both}
 use Rattle.stepping.proofs.Stepping.{Taken, SentGood}
-use Rattle.private_record.specs.Phases.{stateOf, runningOf}
+use Rattle.private_record.specs.Phases.{stateOf, runningOf, phaseOf}
 use Rattle.private_record.specs.Formed.{runningGood, fieldsGood, callGood, wellFormed}
-use Rattle.private_rows.specs.Causes.{causeOf, factsOf}
-use Rattle.private_rows.specs.Rows.{phaseOf, rowOf}
 use Rattle.private_record.specs.declared.states.State.{State}
 use Rattle.private_record.specs.declared.states.Timers.{Timers}
 use Rattle.private_record.specs.declared.states.Phase.{Phase}
 use Rattle.private_record.specs.declared.states.PrivateCall.{PrivateCall}
 use Rattle.private_record.specs.declared.states.PrivateRecord.{PrivateRecord}
+use Rattle.private_record.proofs.WellFormed.{Fit, fit}
+use Rattle.private_rows.specs.Causes.{causeOf, factsOf}
+use Rattle.private_rows.specs.Rows.{rowOf}
 use Rattle.private_rows.specs.declared.causes.Cause.{Cause}
 use Rattle.private_rows.specs.declared.rows.Row.{Row}
-use Rattle.private_rows.proofs.WellFormed.{Fit, fit}
 use Rattle.private_effects.specs.Effects.{reasonNumber, effectOf}
 use Rattle.private_effects.specs.Carried.{ranOut, runningBy, stoppedBy, startedBy, callOf, heldOf, reasonOr, sentOf, carryOut}
 use Rattle.private_effects.specs.declared.effects.Hold.{Hold}

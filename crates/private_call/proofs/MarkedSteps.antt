@@ -7,30 +7,30 @@ use native.Mathlib.Omega.{arith}
 use lib.ListN.{length}
 use lib.Dec.{eqb}
 use borrow.Author.Tests.{eq-eqb, eqb-true}
-use Rattle.writer.specs.Lent.{atFront}
 use Rattle.frame.specs.declared.Media.{Media}
 use Rattle.frame.proofs.Laws.{and-split}
+use Rattle.writer.specs.Lent.{atFront}
 use Rattle.call.specs.Settings.{settingsGood}
-use Rattle.stepping.specs.Sending.{lineSent, sendNumber}
 use Rattle.call.specs.declared.Settings.{Settings}
 use Rattle.call.specs.declared.Verdicts.{Verdicts}
 use Rattle.call.specs.declared.PrivateTimer.{PrivateTimer}
 use Rattle.call.specs.declared.Input.{Input}
+use Rattle.stepping.specs.Sending.{lineSent, sendNumber}
 use Rattle.stepping.proofs.Stepping.{Taken}
-use Rattle.private_record.specs.Phases.{has, noTimer, tfp2, tfp4, stateOf, runningOf, phaseIn}
+use Rattle.private_record.specs.Phases.{has, noTimer, tfp2, tfp4, stateOf, runningOf, phaseIn, phaseOf}
 use Rattle.private_record.specs.Formed.{counterGood, wellFormed}
-use Rattle.private_rows.specs.Causes.{causeOf, factsOf}
-use Rattle.private_rows.specs.Rows.{rowNumber, runs, rowIn, phaseOf, rowOf}
 use Rattle.private_record.specs.declared.states.State.{State}
 use Rattle.private_record.specs.declared.states.Phase.{Phase}
 use Rattle.private_record.specs.declared.states.Timers.{Timers}
 use Rattle.private_record.specs.declared.states.PrivateRecord.{PrivateRecord}
+use Rattle.private_record.proofs.WellFormed.{Fit, fit}
+use Rattle.private_rows.specs.Causes.{causeOf, factsOf}
+use Rattle.private_rows.specs.Rows.{rowNumber, runs, rowIn, rowOf}
 use Rattle.private_rows.specs.declared.causes.Cause.{Cause}
 use Rattle.private_rows.specs.declared.causes.Facts.{Facts}
 use Rattle.private_rows.specs.declared.rows.Row.{Row}
 use Rattle.private_rows.specs.declared.rows.Row.the-variants.{Discard, R3, R23}
 use Rattle.private_rows.proofs.Meets.{same-row, found-is-met, quiet-expiry}
-use Rattle.private_rows.proofs.WellFormed.{Fit, fit}
 use Rattle.private_effects.specs.Effects.{effectOf}
 use Rattle.private_effects.specs.Carried.{startedOf, stoppedOf, runningAfter, runningBy, carryOut}
 use Rattle.private_call.specs.Step.{numberBeforeSending, doneOf, stepLine, refusedOf, discarded, movedOf, stepNumber, stepOf, stepBuffer}

@@ -9,19 +9,19 @@ use lib.ListN.{length, replicate}
 use Rattle.frame.specs.declared.Media.{Media}
 use Rattle.frame.proofs.Laws.{and-split}
 use Rattle.call.specs.Settings.{limitGood, settingsGood}
-use Rattle.stepping.specs.Sending.{lineSent}
 use Rattle.call.specs.declared.Settings.{Settings}
 use Rattle.call.specs.declared.Verdicts.{Verdicts}
 use Rattle.call.specs.declared.Input.{Input}
-use Rattle.private_record.specs.Phases.{has}
+use Rattle.stepping.specs.Sending.{lineSent}
+use Rattle.private_record.specs.Phases.{has, phaseOf}
 use Rattle.private_record.specs.Formed.{wellFormed}
-use Rattle.private_rows.specs.Rows.{rowNumber, phaseOf}
 use Rattle.private_record.specs.declared.states.State.{State}
 use Rattle.private_record.specs.declared.states.Timers.{Timers}
 use Rattle.private_record.specs.declared.states.PrivateCall.{PrivateCall}
 use Rattle.private_record.specs.declared.states.PrivateRecord.{PrivateRecord}
+use Rattle.private_record.proofs.WellFormed.{fit}
+use Rattle.private_rows.specs.Rows.{rowNumber}
 use Rattle.private_rows.specs.declared.rows.Row.{Row}
-use Rattle.private_rows.proofs.WellFormed.{fit}
 use Rattle.private_effects.specs.Carried.{startedOf, runningAfter, countersAfter, carryOut}
 use Rattle.private_call.specs.Step.{stepLine, stepOf}
 use Rattle.private_call.specs.Running.{expiry, runPrivate, sentPrivate}

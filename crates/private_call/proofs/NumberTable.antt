@@ -9,8 +9,8 @@ use Rattle.call.specs.declared.Settings.{Settings}
 use Rattle.call.specs.declared.Input.{Input}
 use Rattle.stepping.proofs.Stepping.{tableTests, number-of-table, number-with-room, number-of-tests}
 use Rattle.private_record.specs.Formed.{wellFormed}
-use Rattle.private_rows.specs.Rows.{rowOf}
 use Rattle.private_record.specs.declared.states.PrivateRecord.{PrivateRecord}
+use Rattle.private_rows.specs.Rows.{rowOf}
 use Rattle.private_call.specs.Step.{identifierTaken, numberBeforeSending, doneOf, stepLine, stepNumber}
 use Rattle.private_call.proofs.Steps.{sends-good}
 

@@ -8,28 +8,28 @@ use lib.ListN.{length, drop}
 use lib.Seq.{take-append-seam}
 use lib.Dec.{ltb, eqb}
 use borrow.Author.Tests.{lt-ltb, le-ltb, ne-eqb}
-use Rattle.writer.specs.Lent.{atFront}
 use Rattle.frame.specs.declared.Media.{Media}
 use Rattle.frame.proofs.Frames.{length-line}
+use Rattle.writer.specs.Lent.{atFront}
 use Rattle.call.specs.Settings.{settingsGood}
-use Rattle.stepping.specs.Sending.{lineSent, sendNumber}
 use Rattle.call.specs.declared.Counters.{Counters}
 use Rattle.call.specs.declared.Settings.{Settings}
 use Rattle.call.specs.declared.Verdicts.{Verdicts}
 use Rattle.call.specs.declared.Input.{Input}
 use Rattle.call.specs.declared.Send.{Send}
-use Rattle.private_record.specs.Phases.{has, stateOf, runningOf, countOf, phaseIn}
+use Rattle.stepping.specs.Sending.{lineSent, sendNumber}
+use Rattle.private_record.specs.Phases.{has, stateOf, runningOf, countOf, phaseIn, phaseOf}
 use Rattle.private_record.specs.Formed.{wellFormed}
-use Rattle.private_rows.specs.Causes.{privateTimerCause, factsOf}
-use Rattle.private_rows.specs.Rows.{rowNumber, rowIn, phaseOf, rowOf}
 use Rattle.private_record.specs.declared.states.State.{State}
 use Rattle.private_record.specs.declared.states.Timers.{Timers}
 use Rattle.private_record.specs.declared.states.Phase.{Phase}
 use Rattle.private_record.specs.declared.states.PrivateRecord.{PrivateRecord}
+use Rattle.private_record.proofs.WellFormed.{fit}
+use Rattle.private_rows.specs.Causes.{privateTimerCause, factsOf}
+use Rattle.private_rows.specs.Rows.{rowNumber, rowIn, rowOf}
 use Rattle.private_rows.specs.declared.causes.Facts.{Facts}
 use Rattle.private_rows.specs.declared.rows.Row.{Row}
 use Rattle.private_rows.specs.declared.rows.Row.the-variants.{R2, R3, R10, R11, R16, R17}
-use Rattle.private_rows.proofs.WellFormed.{fit}
 use Rattle.private_effects.specs.Effects.{effectOf}
 use Rattle.private_effects.specs.Carried.{privateTimerOut, startedOf, stoppedOf, runningAfter, countersAfter, oneMore, startedBy, runningBy, carryOut}
 use Rattle.private_call.specs.Step.{numberBeforeSending, stepOf, stepBuffer}

@@ -2,8 +2,8 @@
 use mathlib.Core.Path.{_≡_, refl}
 use mathlib.Core.Bool.{true}
 use Rattle.call.specs.Meeting.{oneMet}
-use Rattle.private_rows.specs.Rows.{rowsAsk}
 use Rattle.private_record.specs.declared.states.Phase.{Phase}
+use Rattle.private_rows.specs.Rows.{rowsAsk}
 use Rattle.private_rows.specs.declared.causes.Cause.{Cause}
 use Rattle.private_rows.specs.declared.causes.Facts.{Facts}
 use Rattle.private_rows.proofs.Everywhere.{anywhere}

@@ -6,10 +6,10 @@ use Rattle.frame.proofs.Laws.{and-split}
 use Rattle.call.proofs.Laws.{bothBools}
 use Rattle.private_record.specs.Phases.{stateNumber, has, setOf, sameTimers, stateOf, runningOf}
 use Rattle.private_record.specs.Formed.{runningGood, roleGood}
-use Rattle.private_rows.specs.Rows.{rowNumber, sameCause, rowIn}
 use Rattle.private_record.specs.declared.states.State.{State}
 use Rattle.private_record.specs.declared.states.Phase.{Phase}
 use Rattle.private_record.specs.declared.states.Timers.{Timers}
+use Rattle.private_rows.specs.Rows.{rowNumber, sameCause, rowIn}
 use Rattle.private_rows.specs.declared.causes.Cause.{Cause}
 use Rattle.private_rows.specs.declared.causes.Facts.{Facts}
 use Rattle.private_rows.specs.declared.rows.Row.{Row}

@@ -8,19 +8,19 @@ use lib.Dec.{eqb}
 use borrow.Author.Tests.{eq-eqb, ne-eqb}
 use Rattle.writer.specs.Lent.{lentAfter}
 use Rattle.call.specs.Settings.{settingsGood}
-use Rattle.stepping.specs.Sending.{lineSent, sendNumber}
 use Rattle.call.specs.declared.Settings.{Settings}
 use Rattle.call.specs.declared.Input.{Input}
+use Rattle.stepping.specs.Sending.{lineSent, sendNumber}
 use Rattle.stepping.proofs.Stepping.{Taken, SentGood, number-passed}
 use Rattle.stepping.proofs.Stepping as stepping
 use Rattle.stepping.proofs.Answers.{by-cases}
 use Rattle.private_record.specs.Formed.{wellFormed}
-use Rattle.private_rows.specs.Rows.{rowNumber, rowOf}
 use Rattle.private_record.specs.declared.states.PrivateRecord.{PrivateRecord}
+use Rattle.private_record.proofs.WellFormed.{fit}
+use Rattle.private_rows.specs.Rows.{rowNumber, rowOf}
 use Rattle.private_rows.specs.declared.rows.Row.{Row}
 use Rattle.private_rows.specs.declared.rows.Row.the-variants.{Discard}
 use Rattle.private_rows.proofs.Meets.{same-row}
-use Rattle.private_rows.proofs.WellFormed.{fit}
 use Rattle.private_effects.specs.Carried.{ranOut, runningAfter, carryOut}
 use Rattle.private_effects.specs.declared.Carried.{Carried}
 use Rattle.private_call.proofs.Keeping.{carried-well-formed, carried-sends-good}

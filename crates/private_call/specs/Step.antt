@@ -6,18 +6,18 @@ use lib.ListN.{length}
 use lib.Dec.{eqb}
 use Rattle.writer.specs.Lent.{lentAfter}
 use Rattle.call.specs.Request.{requestOf}
-use Rattle.stepping.specs.Numbers.{numberOfTests}
-use Rattle.stepping.specs.Sending.{lineSent, numberSending}
 use Rattle.call.specs.declared.Settings.{Settings}
 use Rattle.call.specs.declared.Event.{Event}
 use Rattle.call.specs.declared.Input.{Input}
+use Rattle.stepping.specs.Numbers.{numberOfTests}
+use Rattle.stepping.specs.Sending.{lineSent, numberSending}
 use Rattle.private_record.specs.Phases.{noTimer}
 use Rattle.private_record.specs.Formed.{wellFormed}
+use Rattle.private_record.specs.declared.states.PrivateRecord.{PrivateRecord}
 use Rattle.private_rows.specs.Causes.{sameIdentifier}
 use Rattle.private_rows.specs.Rows.{rowNumber, rowOf}
-use Rattle.private_effects.specs.Carried.{carryOut}
-use Rattle.private_record.specs.declared.states.PrivateRecord.{PrivateRecord}
 use Rattle.private_rows.specs.declared.rows.Row.{Row}
+use Rattle.private_effects.specs.Carried.{carryOut}
 use Rattle.private_effects.specs.declared.Carried.{Carried}
 use Rattle.private_call.specs.declared.Stepped.{Stepped}
 

@@ -19,12 +19,12 @@ use Rattle.call.specs.declared.Request.{Request}
 use Rattle.call.specs.declared.Send.{Send}
 use Rattle.private_record.specs.Phases.{stateNumber, has, setOf, noTimer, tfp1, tfp2, tfp3, tfp4, tfp5, tfp7}
 use Rattle.private_record.specs.Formed.{noCall, callRequest}
-use Rattle.private_effects.specs.Effects.{reasonNumber, effectOf}
 use Rattle.private_record.specs.declared.states.State.{State}
 use Rattle.private_record.specs.declared.states.Timers.{Timers}
 use Rattle.private_record.specs.declared.states.PrivateCall.{PrivateCall}
 use Rattle.private_record.specs.declared.states.PrivateRecord.{PrivateRecord}
 use Rattle.private_rows.specs.declared.rows.Row.{Row}
+use Rattle.private_effects.specs.Effects.{reasonNumber, effectOf}
 use Rattle.private_effects.specs.declared.effects.Hold.{Hold}
 use Rattle.private_effects.specs.declared.effects.Reason.{Reason}
 use Rattle.private_effects.specs.declared.effects.Say.{Say}

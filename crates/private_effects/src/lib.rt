@@ -1,5 +1,5 @@
 // What carrying out a row of the private call machine gives.
-pub mod effects;
+mod effects;
 mod settled;
 
 ghost use mathlib.Core.Path.{_≡_};

@@ -6,6 +6,7 @@ use Rattle.call.specs.declared.PrivateTimer.{PrivateTimer}
 use Rattle.private_record.specs.declared.states.State.{State}
 use Rattle.private_record.specs.declared.states.Timers.{Timers}
 use Rattle.private_record.specs.declared.states.Phase.{Phase}
+use Rattle.private_record.specs.declared.states.PrivateRecord.{PrivateRecord}
 
 -- the states by their numbers
 abbrev pub stateNumber : State → ℕ
@@ -118,3 +119,7 @@ phaseIn State.P2 w = cond (w .tfp1) Phase.P2Tfp1 Phase.P2Tfp2
 phaseIn State.P3 w = Phase.P3
 phaseIn State.P4 w = Phase.P4
 phaseIn State.P5 w = cond (w .tfp2) Phase.P5Tfp2 Phase.P5Tfp4
+
+-- the phase of a record
+abbrev pub phaseOf : PrivateRecord → Phase
+phaseOf p = phaseIn (p .state) (p .running)

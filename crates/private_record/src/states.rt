@@ -134,13 +134,6 @@ impl PrivateRecord {
     };
 }
 
-// The cleared record.
-pub fn cleared_record() -> PrivateRecord
-    ensures { λ r. ⌜ r ≡ clearedRecord ⌝ }
-{
-    PrivateRecord::CLEARED
-}
-
 // A state with its running timers: P2 and P5 have two phases each.
 pub enum Phase {
     P0,
@@ -151,6 +144,13 @@ pub enum Phase {
     P4,
     P5Tfp2,
     P5Tfp4,
+}
+
+// The cleared record.
+pub fn cleared_record() -> PrivateRecord
+    ensures { λ r. ⌜ r ≡ clearedRecord ⌝ }
+{
+    PrivateRecord::CLEARED
 }
 
 // Whether two sets have the same timers.

@@ -1,3 +1,2 @@
 pub mod Everywhere
 pub mod Meets
-pub mod WellFormed

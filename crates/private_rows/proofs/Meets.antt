@@ -7,10 +7,10 @@ use lib.Dec.{eqb}
 use Rattle.call.proofs.Laws.{by-number}
 use Rattle.call.specs.Meeting.{firstMet}
 use Rattle.call.specs.declared.PrivateTimer.{PrivateTimer}
+use Rattle.private_record.specs.declared.states.Phase.{Phase}
 use Rattle.private_rows.specs.Causes.{privateTimerCause}
 use Rattle.private_rows.specs.Rows.{rowNumber, runs, rowIn, rowsAsk}
 use Rattle.private_rows.specs.Found.{atOf, foundAt}
-use Rattle.private_record.specs.declared.states.Phase.{Phase}
 use Rattle.private_rows.specs.declared.causes.Cause.{Cause}
 use Rattle.private_rows.specs.declared.causes.Facts.{Facts}
 use Rattle.private_rows.specs.declared.rows.Row.{Row}

@@ -7,10 +7,10 @@ use Rattle.call.specs.Meeting.{firstMet}
 use Rattle.call.specs.declared.PrivateTimer.{PrivateTimer}
 use Rattle.call.specs.declared.Settings.{Settings}
 use Rattle.call.specs.declared.Input.{Input}
-use Rattle.private_record.specs.Phases.{stateNumber, has, stateOf, runningOf, phaseIn}
-use Rattle.private_rows.specs.Causes.{privateTimerCause, causeOf, factsOf}
+use Rattle.private_record.specs.Phases.{stateNumber, has, stateOf, runningOf, phaseOf}
 use Rattle.private_record.specs.declared.states.Phase.{Phase}
 use Rattle.private_record.specs.declared.states.PrivateRecord.{PrivateRecord}
+use Rattle.private_rows.specs.Causes.{privateTimerCause, causeOf, factsOf}
 use Rattle.private_rows.specs.declared.causes.Cause.{Cause}
 use Rattle.private_rows.specs.declared.causes.Facts.{Facts}
 use Rattle.private_rows.specs.declared.rows.Row.{Row}
@@ -135,10 +135,6 @@ rowsAsk f c x =
 -- the row that is met in a phase: the first for which all that it asks holds; Discard where there is none
 unfoldable pub rowIn : Phase → Cause → Facts → Row
 rowIn f c x = firstMet Discard (rowsAsk f c x)
-
--- the phase of a record
-abbrev pub phaseOf : PrivateRecord → Phase
-phaseOf p = phaseIn (p .state) (p .running)
 
 -- the row that an event meets from a record
 abbrev pub rowOf : Settings → PrivateRecord → Input → Row

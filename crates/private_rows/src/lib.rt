@@ -1,5 +1,5 @@
 // The row that an event meets from a private record.
-pub mod causes;
+mod causes;
 mod phases;
 pub mod rows;
 

@@ -7,13 +7,13 @@ use native.Mathlib.Omega.{arith}
 use lib.ListN.{length}
 use lib.Dec.{eqb}
 use borrow.Author.Tests.{eq-eqb, ne-eqb, eqb-true, eqb-false}
-use Rattle.writer.specs.Lent.{lentAfter}
 use Rattle.frame.specs.declared.Media.{Media}
-use Rattle.stepping.specs.Numbers.{numberBeforeRow, numberOfTests}
-use Rattle.stepping.specs.Sending.{lineSent, sendNumber, sendTold, sendBuffer, numberSending}
+use Rattle.writer.specs.Lent.{lentAfter}
 use Rattle.call.specs.declared.Settings.{Settings}
 use Rattle.call.specs.declared.Input.{Input}
 use Rattle.call.specs.declared.Send.{Send}
+use Rattle.stepping.specs.Numbers.{numberBeforeRow, numberOfTests}
+use Rattle.stepping.specs.Sending.{lineSent, sendNumber, sendTold, sendBuffer, numberSending}
 use Rattle.stepping.proofs.Stepping.{tests-parts}
 
 -- what holds of an answer that is carried out and of one that refuses holds of the answer

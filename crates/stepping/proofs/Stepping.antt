@@ -10,17 +10,17 @@ use borrow.Author.Tests.{le-ltb, eq-eqb, eqb-true, eqb-false}
 use Rattle.frame.specs.Number.{firstGiven}
 use Rattle.frame.specs.Frame.{inRange}
 use Rattle.frame.specs.Layout.{longestLine}
-use Rattle.writer.specs.Writing.{writeNumber}
 use Rattle.frame.specs.declared.Media.{Media}
 use Rattle.frame.proofs.Laws.{passed}
 use Rattle.frame.proofs.Longest.{longest-line}
+use Rattle.writer.specs.Writing.{writeNumber}
 use Rattle.call.specs.Settings.{settingsGood}
-use Rattle.stepping.specs.Numbers.{heardGood, argumentsGood, numberBeforeRow, numberOfTests}
-use Rattle.stepping.specs.Sending.{lineSent, sendNumber, numberSending}
 use Rattle.call.specs.declared.Settings.{Settings}
 use Rattle.call.specs.declared.Input.{Input}
 use Rattle.call.specs.declared.Send.{Send}
 use Rattle.call.proofs.Laws.{holds}
+use Rattle.stepping.specs.Numbers.{heardGood, argumentsGood, numberBeforeRow, numberOfTests}
+use Rattle.stepping.specs.Sending.{lineSent, sendNumber, numberSending}
 
 -- ---- the tests
 

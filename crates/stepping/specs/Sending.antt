@@ -4,9 +4,9 @@ use mathlib.Core.List.{List, []}
 use mathlib.Core.Bool.{cond}
 use lib.Dec.{eqb}
 use Rattle.frame.specs.Layout.{lineOf}
+use Rattle.frame.specs.declared.Media.{Media}
 use Rattle.writer.specs.Lent.{told, lentAfter}
 use Rattle.writer.specs.Writing.{writeNumber}
-use Rattle.frame.specs.declared.Media.{Media}
 use Rattle.writer.specs.declared.Written.{Written}
 use Rattle.call.specs.declared.Send.{Send}
 

@@ -11,12 +11,12 @@ use borrow.Author.Tests.{lt-ltb, le-ltb}
 use Rattle.frame.specs.Digits.{Width, twice, digitCount, size, inHex, allInHex}
 use Rattle.frame.specs.Frame.{inRange, kindOf}
 use Rattle.frame.specs.Layout.{front, back, mediaPlace, backPlace, digitsOf, frontOf, backOf, mediaInHex, frameInHex, lineOf}
-use Rattle.writer.specs.Writing.{writeNumber, writtenOf, bufferOf}
 use Rattle.frame.specs.declared.Media.{Media}
 use Rattle.frame.specs.declared.Message.{Message}
-use Rattle.writer.specs.declared.Written.{Written}
 use Rattle.frame.proofs.Hex.{length-hex}
 use Rattle.frame.proofs.Frames.{length-front, length-media, length-frame, length-line}
+use Rattle.writer.specs.Writing.{writeNumber, writtenOf, bufferOf}
+use Rattle.writer.specs.declared.Written.{Written}
 
 -- ---- stores one after the other
 

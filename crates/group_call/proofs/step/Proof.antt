@@ -2,13 +2,13 @@
 use Prim.Native.Nat.{ℕ}
 use mathlib.Core.Path.{_≡_, sym, ap, _∙_}
 use mathlib.Core.Bool.{Bool}
+use Rattle.writer.specs.declared.Written.{Written}
 use Rattle.stepping.specs.Numbers.{numberBeforeRow}
 use Rattle.stepping.specs.Sending.{sendTold, sendBuffer}
-use Rattle.writer.specs.declared.Written.{Written}
 use Rattle.group_record.specs.Formed.{wellFormed}
 use Rattle.group_rows.specs.Rows.{rowOf}
-use Rattle.group_call.specs.Carried.{carryOut}
 use Rattle.group_rows.specs.declared.rows.Row.{Row}
+use Rattle.group_call.specs.Carried.{carryOut}
 use Rattle.group_call.specs.declared.settled.Carried.{Carried}
 use Rattle.group_call.specs.Step.{changeTooEarly, doneOf, refusedOf, movedOf}
 use Rattle.group_call.proofs.Answers.{refused-first, refused-by-row, refused-sending, carried-out}

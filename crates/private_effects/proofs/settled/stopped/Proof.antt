@@ -1,6 +1,6 @@
 -- `private_effects::settled::stopped` meets its contract: what is known at each return gives the case. Assumes nothing.
+use mathlib.Core.Path.{refl}
 use Rattle.private_effects.specs.Carried.{stoppedOf}
-use borrow.Author.Needs.{needs}
 use Rattle.private_effects.proofs.settled.stopped.Statement.{statement}
 use Rattle.private_effects.proofs.settled.stopped.Tie as tie
 
@@ -9,10 +9,4 @@ unfolding stoppedOf
 stopped-spec =
     tie.close
     (tie.spec
-    (λ c κs. search needs)
-    (λ c κs. search needs)
-    (λ c κs. search needs)
-    (λ c κs. search needs)
-    (λ c κs. search needs)
-    (λ c κs. search needs)
-    (λ c. rw (c .stops6 .ensures, c .before .stops5 .ensures, c .before .before .stops4 .ensures, c .before .before .before .stops3 .ensures, c .before .before .before .before .stops2 .ensures, c .before .before .before .before .before .stops .ensures)))
+    (λ c. refl))

@@ -5,13 +5,12 @@ use Rattle.frame.proofs.Laws.{and-split}
 use Rattle.call.specs.declared.Settings.{Settings}
 use Rattle.call.specs.declared.PrivateTimer.{PrivateTimer}
 use Rattle.call.proofs.Laws.{beq-same}
-use Rattle.private_record.specs.Phases.{has, setOf, sameTimers, stateOf, runningOf, phaseIn}
+use Rattle.private_record.specs.Phases.{has, setOf, sameTimers, stateOf, runningOf, phaseIn, phaseOf}
 use Rattle.private_record.specs.Formed.{runningGood, countersGood, callGood, wellFormed}
-use Rattle.private_rows.specs.Rows.{phaseOf}
 use Rattle.private_record.specs.declared.states.State.{State}
 use Rattle.private_record.specs.declared.states.Phase.{Phase}
 use Rattle.private_record.specs.declared.states.Timers.{Timers}
 use Rattle.private_record.specs.declared.states.PrivateRecord.{PrivateRecord}
 
 -- sets with the same timers are equal
 pub same-timers : (a b : Timers) → sameTimers a b ≡ true → a ≡ b

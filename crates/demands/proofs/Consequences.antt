@@ -1,17 +1,19 @@
 -- Rows hold from every record; each row is told and no other; where some input is always heeded there is no standstill. Assumes nothing.
 use mathlib.Core.Path.{_≡_, refl, sym, _∙_, subst}
-use mathlib.Core.Logic.{_⊎_, ⊎-elim}
+use mathlib.Core.Logic.{_⊎_, inl, inr, ⊎-elim}
 use mathlib.Core.List.{List, [], _∷_}
 use mathlib.Core.Bool.{Bool, true, false, cond, _&&_, _||_, true≢false, false≢true}
-use Prim.Native.Nat.{ℕ, zero, suc, _≤_}
+use Prim.Native.Nat.{ℕ, zero, suc, _<_, _≤_}
 use native.Mathlib.Omega.{arith}
-use lib.Dec.{leb, eqb}
-use borrow.Author.Tests.{leb-true, eqb-true, eqb-false}
+use lib.Dec.{ltb, leb, eqb}
+use lib.ListN.{length}
+use borrow.Author.Tests.{leb-true, ltb-true, ltb-false, eqb-true, eqb-false}
 use Rattle.frame.proofs.Laws.{and-split, or-cases}
 use Rattle.call.specs.Settings.{settingsGood}
 use Rattle.call.specs.Meeting.{firstMet}
 use Rattle.call.specs.declared.Settings.{Settings}
 use Rattle.call.specs.declared.Input.{Input}
+use Rattle.stepping.specs.Numbers.{heardGood, argumentsGood}
 use Rattle.private_record.specs.declared.states.Phase.{Phase}
 use Rattle.private_rows.specs.Rows as Rows
 use Rattle.private_rows.specs.declared.causes.Cause.{Cause}
@@ -22,7 +24,7 @@ use Rattle.group_rows.specs.Rows as GroupRows
 use Rattle.group_rows.specs.declared.causes.Cause as GroupCause
 use Rattle.group_rows.specs.declared.causes.Facts as GroupFacts
 use Rattle.group_rows.specs.declared.rows.Row.the-variants as GroupRow
-use Rattle.demands.specs.Machines.{Answer, Machine, CarriesOut, RowsHold, KeepsWellFormed, privateMachine, groupMachine}
+use Rattle.demands.specs.Machines.{Answer, Machine, lineToSend, Unrefused, CarriesOut, RowsHold, KeepsWellFormed, privateMachine, groupMachine}
 use Rattle.demands.specs.ExactlyWhen.{ExactlyWhen, SettingOut, Unformed, FieldOut, ArgumentOut, StepRoomless, StepExactlyWhen}
 use Rattle.demands.specs.NothingChanges.{StepNothingChanges}
 use Rattle.demands.specs.RowPlays.{Play, play, lent, AllComeOut, plays}
@@ -102,17 +104,29 @@ abbrev isPlayed : {M : Machine} → List (Play M) → ℕ → Bool
 isPlayed [] n = false
 isPlayed (play row s p i stop start next line ∷ xs) n = eqb row n || isPlayed xs n
 
--- a number 0 is given only to good settings and a well-formed record
-taken : (M : Machine) → StepExactlyWhen M → (s : Settings) (p : M .Stored) (i : Input) (out : List ℕ) → M .step s p i out .number ≡ 0
-    → (settingsGood s ≡ true) × (M .wellFormed s p ≡ true)
+-- a number 0 is given only where nothing is refused and there is room
+pub passed-tests : (M : Machine) → StepExactlyWhen M → (s : Settings) (p : M .Stored) (i : Input) (out : List ℕ) → M .step s p i out .number ≡ 0
+    → Unrefused M s p i × (length (lineToSend M s p i) ≤ length out)
 unfolding ExactlyWhen
-taken M told s p i out e =
-    let passed = told s p i out .exactly .1 .1 .1 .1 .1 .0 e in
-    (holds (settingsGood s) refl (passed .0 .0 .0 .0 .1), holds (M .wellFormed s p) refl (passed .0 .0 .0 .1))
+passed-tests M told s p i out e =
+    let passed = told s p i out .exactly .1 .1 .1 .1 .1 .0 e in (
+      record {
+        settings = holds (settingsGood s) refl (passed .0 .0 .0 .0 .1);
+        formed = holds (M .wellFormed s p) refl (passed .0 .0 .0 .1);
+        message = holds (heardGood (i .event) (i .media)) refl (passed .0 .0 .1);
+        arguments = holds (argumentsGood s (i .event) (i .media)) refl (λ f. passed .0 .1 (inl f));
+        row = λ r. passed .0 .1 (inr r);
+      },
+      roomy (ltb (length out) (length (lineToSend M s p i))) refl (passed .1),
+    )
   where
     holds : (b : Bool) {c : Bool} → c ≡ b → (c ≡ false → ⊥) → c ≡ true
     holds true t f = t
     holds false t f = absurd (f t)
+
+    roomy : {m n : ℕ} (b : Bool) → ltb m n ≡ b → (m < n → ⊥) → n ≤ m
+    roomy {m} {n} true t f = absurd (f (ltb-true m n t))
+    roomy {m} {n} false t f = ltb-false m n t
 
 -- a row that is played is told
 played-told : (M : Machine) → StepExactlyWhen M → (xs : List (Play M)) → AllComeOut M xs → (n : ℕ) → isPlayed xs n ≡ true → RowTold M n
@@ -123,7 +137,7 @@ played-told M told (play row s p i stop start next line ∷ xs) out n e =
     here : row ≡ n → RowTold M n
     here t =
         let number : M .step s p i lent .number ≡ 0 = λ j. out .0 .0 j .number in
-        let from = taken M told s p i lent number in (s, p, i, lent, from .0, from .1, number, (λ j. out .0 .0 j .row) ∙ t)
+        let from = passed-tests M told s p i lent number .0 in (s, p, i, lent, from .settings, from .formed, number, (λ j. out .0 .0 j .row) ∙ t)
 
 -- where every row of the list is played, every row is told
 every-row-told : (M : Machine) → StepExactlyWhen M → (xs : List (Play M)) → AllComeOut M xs → (last : ℕ) → below last (λ n. isPlayed xs (suc n)) ≡ true

@@ -102,8 +102,8 @@ demand-2 =
       oneLine = one-line;
       privateRows = private-by-the-rows;
       groupRows = group-by-the-rows;
-      privateShutsOut = private-shuts-out;
-      groupShutsOut = group-shuts-out;
+      privateShutsOut = private-shuts-out private-by-the-rows;
+      groupShutsOut = group-shuts-out group-by-the-rows;
     }
 
 -- ---- demand 3

@@ -1,4 +1,4 @@
--- Builds of a call machine that must be shut out. Assumes nothing.
+-- Builds of a call machine: what it is to be the machine, and those that must be shut out. Assumes nothing.
 use mathlib.Core.Path.{_≡_}
 use mathlib.Core.Logic.{_⊎_}
 use mathlib.Core.List.{List}
@@ -34,6 +34,11 @@ builtAs M b =
       step = b .answer;
       buffer = b .after;
     }
+
+-- it is the machine's step: the same answer and the same buffer, whatever comes in
+abbrev pub SameAs : (M : Machine) → BuildOf M → Type 0
+SameAs M b =
+    (s : Settings) (p : M .Stored) (i : Input) (out : List ℕ) → (b .answer s p i out ≡ M .step s p i out) × (b .after s p i out ≡ M .buffer s p i out)
 
 -- it refuses everything
 abbrev pub RefusesAll : (M : Machine) → BuildOf M → Type 0

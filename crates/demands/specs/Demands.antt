@@ -19,7 +19,7 @@ use Rattle.demands.specs.ExactlyWhen.{GivenExactlyWhen, lineTable, write
 use Rattle.demands.specs.NothingChanges.{NothingChanges, ReadNothingChanges, ChooseNothingChanges, StepNothingChanges}
 use Rattle.demands.specs.Machines.{Machine, RowsHold, CarriesOut, KeepsWellFormed, SendsGood, TimersAgree, ChangeStops, SparesRanOut, privateMachine, groupMachine}
 use Rattle.demands.specs.Consequences.{lastPrivateRow, lastGroupRow, KnownRows, EveryRowTold, Heeds, NeverStill, Varies}
-use Rattle.demands.specs.Builds.{BuildOf, builtAs, RefusesAll, DiscardsAll, StandsStill, NeverVaries, MakesUpRow}
+use Rattle.demands.specs.Builds.{BuildOf, builtAs, SameAs, RefusesAll, DiscardsAll, StandsStill, NeverVaries, MakesUpRow}
 use Rattle.demands.specs.SameCall.{KeepsContract, BestCall, SameCall, AnyOrder}
 
 -- ---- Demand 1: whatever comes in gets an answer; what is bad gets its number, and nothing else happens
@@ -98,18 +98,29 @@ pub record ByTheRows (M : Machine) (last : ℕ) : Type 0 where
   -- answers vary with the input, and with the record
   pub varies : Varies M
 
--- which builds of the step do not go by the rows, whatever else they do
+-- a build of the step meets the demands: its numbers are those of the table, a refusal and a discard change nothing, and rows hold
+pub record MeetsDemands (M : Machine) (b : BuildOf M) : Type 0 where
+  -- each number exactly when
+  pub numbers : StepExactlyWhen (builtAs M b)
+  -- and nothing else then
+  pub keeps : StepNothingChanges (builtAs M b)
+  -- rows hold from every well-formed record
+  pub rows : RowsHold (builtAs M b)
+
+-- what follows for a build that meets the demands
 pub record ShutsOut (M : Machine) (last : ℕ) : Type 0 where
-  -- one that refuses everything
-  pub refusing : (b : BuildOf M) → RefusesAll M b → ByTheRows (builtAs M b) last → ⊥
-  -- one whose answer never varies
-  pub unvarying : (b : BuildOf M) → NeverVaries M b → ByTheRows (builtAs M b) last → ⊥
-  -- one that discards every event
-  pub discarding : (b : BuildOf M) → DiscardsAll M b → ByTheRows (builtAs M b) last → ⊥
-  -- one that heeds a first event and nothing after it
-  pub standingStill : (b : BuildOf M) → StandsStill M b → ByTheRows (builtAs M b) last → ⊥
-  -- one with a row of its own
-  pub makingUp : (b : BuildOf M) → MakesUpRow M last b → ByTheRows (builtAs M b) last → ⊥
+  -- it is the machine: in all its answers, and in every byte of the buffer
+  pub oneBuild : (b : BuildOf M) → MeetsDemands M b → SameAs M b
+  -- so it does not refuse everything
+  pub refusing : (b : BuildOf M) → MeetsDemands M b → RefusesAll M b → ⊥
+  -- its reply varies
+  pub unvarying : (b : BuildOf M) → MeetsDemands M b → NeverVaries M b → ⊥
+  -- it does not discard every event
+  pub discarding : (b : BuildOf M) → MeetsDemands M b → DiscardsAll M b → ⊥
+  -- it heeds more than a first event
+  pub standingStill : (b : BuildOf M) → MeetsDemands M b → StandsStill M b → ⊥
+  -- it has no row of its own
+  pub makingUp : (b : BuildOf M) → MeetsDemands M b → MakesUpRow M last b → ⊥
 
 -- demand 2: lines, both machines, and what they shut out
 pub record Demand2 : Type 0 where

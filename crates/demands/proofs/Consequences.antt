@@ -3,17 +3,22 @@ use mathlib.Core.Path.{_≡_, refl, sym, _∙_, subst}
 use mathlib.Core.Logic.{_⊎_, inl, inr, ⊎-elim}
 use mathlib.Core.List.{List, [], _∷_}
 use mathlib.Core.Bool.{Bool, true, false, cond, _&&_, _||_, true≢false, false≢true}
-use Prim.Native.Nat.{ℕ, zero, suc, _<_, _≤_}
+use Prim.Native.Nat.{ℕ, zero, suc, _<_, _≤_, zero-le}
 use native.Mathlib.Omega.{arith}
 use lib.Dec.{ltb, leb, eqb}
 use lib.ListN.{length}
 use borrow.Author.Tests.{leb-true, ltb-true, ltb-false, eqb-true, eqb-false}
+use Rattle.frame.specs.Layout.{longestLine}
+use Rattle.frame.specs.declared.Media.{Media}
 use Rattle.frame.proofs.Laws.{and-split, or-cases}
+use Rattle.frame.proofs.Longest.{longest-line}
 use Rattle.call.specs.Settings.{settingsGood}
 use Rattle.call.specs.Meeting.{firstMet}
 use Rattle.call.specs.declared.Settings.{Settings}
 use Rattle.call.specs.declared.Input.{Input}
+use Rattle.call.specs.declared.Send.{Send}
 use Rattle.stepping.specs.Numbers.{heardGood, argumentsGood}
+use Rattle.stepping.specs.Sending.{lineSent}
 use Rattle.private_record.specs.declared.states.Phase.{Phase}
 use Rattle.private_rows.specs.Rows as Rows
 use Rattle.private_rows.specs.declared.causes.Cause.{Cause}
@@ -29,7 +34,7 @@ use Rattle.demands.specs.ExactlyWhen.{ExactlyWhen, SettingOut, Unformed,
 use Rattle.demands.specs.NothingChanges.{StepNothingChanges}
 use Rattle.demands.specs.RowPlays.{Play, play, lent, AllComeOut, plays}
 use Rattle.demands.specs.GroupPlays.{groupPlays}
-use Rattle.demands.specs.Consequences.{lastPrivateRow, lastGroupRow, KnownRows, RowTold, EveryRowTold, Heeds, NeverStill}
+use Rattle.demands.specs.Consequences.{lastPrivateRow, lastGroupRow, KnownRows, RowTold, EveryRowTold, IsHeeded, Heeds, NeverStill}
 use Rattle.demands.proofs.Tables.{below, at}
 use Rattle.demands.proofs.NothingChanges.{step-nothing-changes}
 use Rattle.demands.proofs.ExactlyWhen.{step-exactly-when}
@@ -51,6 +56,26 @@ rows-hold M told carries s p i out t room = carries s p i out (told s p i out .e
     passed : ((((Unit {0} × (SettingOut s → ⊥)) × (Unformed M s p → ⊥)) × (FieldOut i → ⊥)) × (ArgumentOut s i ⊎ M .RefusedByRow s p i → ⊥))
         × (StepRoomless M s p i out → ⊥)
     passed = (((((tt, good (t .settings)), good (t .formed)), good (t .message)), ⊎-elim (good (t .arguments)) (t .row)), λ h. omega (arith, h, room))
+
+-- of the private call machine
+pub private-rows-hold : RowsHold privateMachine
+private-rows-hold = rows-hold privateMachine step-exactly-when private-carries-out
+
+-- of the group call machine
+pub group-rows-hold : RowsHold groupMachine
+group-rows-hold = rows-hold groupMachine group-step-exactly-when group-carries-out
+
+-- what is sent fits where the longest line does
+line-fits : (sent : Send) (media : Media) (out : List ℕ) → longestLine ≤ length out → length (lineSent sent media) ≤ length out
+line-fits Send.Nothing media out h = zero-le
+line-fits (Send.Message m) media out h = let k = longest-line .0 m media in omega (arith, h, k)
+
+-- an input that is not refused, and whose row leads to another state, is heeded
+pub heeded-by-row : (M : Machine) → RowsHold M → (s : Settings) (p : M .Stored) (i : Input) → Unrefused M s p i → M .carried s p i .number ≡ 0
+    → 1 ≤ M .carried s p i .row → M .changes p (M .carried s p i .next) ≡ true → IsHeeded M s p i
+heeded-by-row M hold s p i u n r c out room =
+    let e = hold s p i out u (line-fits (M .sent s p i) (M .media s p i) out room) .0 in
+    ((λ j. e j .number) ∙ n, subst (λ (k : ℕ). 1 ≤ k) (sym (λ j. e j .row)) r, (λ j. M .changes p (e j .next)) ∙ c)
 
 -- ---- no other row
 

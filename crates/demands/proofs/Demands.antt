@@ -6,7 +6,8 @@ use Rattle.frame.proofs.OnlyLine.{line-is-the-only-one}
 use Rattle.group_call.specs.Hearing.{Build, promised}
 use Rattle.demands.specs.Machines.{privateMachine, groupMachine}
 use Rattle.demands.specs.Consequences.{lastPrivateRow, lastGroupRow}
-use Rattle.demands.specs.Demands.{NumbersGiven, RefusalsKeep, Demand1, OneLine, ByTheRows, Demand2, Demand3}
+use Rattle.demands.specs.Demands.{NumbersGiven, RefusalsKeep, Demand1, OneLine, ByTheRows, MeetsDemands, Demand2, Demand3}
+use Rattle.demands.specs.Builds.{BuildOf, steppedAs, asStep}
 use Rattle.demands.specs.SameCall.{KeepsContract, BestCall, SameCall, AnyOrder}
 use Rattle.demands.proofs.ExactlyWhen.{line-exactly-when, read-exactly-when, write-exactly-when, answer-exactly-when, step-exactly-when}
 use Rattle.demands.proofs.Choosing.{choose-number-exactly-when}
@@ -14,7 +15,7 @@ use Rattle.demands.proofs.NothingChanges.{read-nothing-changes, write-n
 use Rattle.demands.proofs.Machines.{private-carries-out, private-keeps-well-formed, private-sends-good, private-timers-agree, private-change-stops, private-spares-ran-out}
 use Rattle.demands.proofs.GroupMachine.{group-step-exactly-when, group-step-nothing-changes}
 use Rattle.demands.proofs.GroupMachine.{group-carries-out, group-keeps-well-formed, group-sends-good, group-timers-agree, group-change-stops, group-spares-ran-out}
-use Rattle.demands.proofs.Consequences.{rows-hold, private-known-rows, group-known-rows, private-every-row, group-every-row}
+use Rattle.demands.proofs.Consequences.{private-rows-hold, group-rows-hold, private-known-rows, group-known-rows, private-every-row, group-every-row}
 use Rattle.demands.proofs.PrivateHeeds.{private-heeds, private-never-still}
 use Rattle.demands.proofs.GroupHeeds.{group-heeds, group-never-still}
 use Rattle.demands.proofs.Varying.{private-varies, group-varies}
@@ -63,7 +64,7 @@ one-line l m media = (line-is-the-only-one l m media, λ h. ap readLine (h .0) �
 pub private-by-the-rows : ByTheRows privateMachine lastPrivateRow
 private-by-the-rows =
     record {
-      rowsHold = rows-hold privateMachine step-exactly-when private-carries-out;
+      rowsHold = private-rows-hold;
       carriesOut = private-carries-out;
       knownRows = private-known-rows;
       everyRow = private-every-row;
@@ -81,7 +82,7 @@ private-by-the-rows =
 pub group-by-the-rows : ByTheRows groupMachine lastGroupRow
 group-by-the-rows =
     record {
-      rowsHold = rows-hold groupMachine group-step-exactly-when group-carries-out;
+      rowsHold = group-rows-hold;
       carriesOut = group-carries-out;
       knownRows = group-known-rows;
       everyRow = group-every-row;
@@ -112,6 +113,17 @@ demand-2 =
 kept : (P : Build → Type 0) → P promised → (b : Build) → KeepsContract b → P b
 kept P holds b keeps = subst P (sym (λ j s g i out. keeps s g i out j)) holds
 
+-- a build that meets the other demands is the machine, so it keeps the contract
+keeps-contract : (b : BuildOf groupMachine) → MeetsDemands groupMachine b → KeepsContract (asStep b)
+keeps-contract b m s g i out =
+    let e = group-shuts-out group-by-the-rows .oneBuild b m s g i out in λ j. (steppedAs (e .0 j), e .1 j)
+
 -- two cabs that know of the same calls end in the same one
 pub demand-3 : Demand3
-demand-3 = record { oneCab = kept BestCall best-call; twoCabs = kept SameCall same-call; anyOrder = kept AnyOrder any-order }
+demand-3 =
+    record {
+      oneCab = kept BestCall best-call;
+      twoCabs = kept SameCall same-call;
+      anyOrder = kept AnyOrder any-order;
+      fromTheOthers = λ b m. kept SameCall same-call (asStep b) (keeps-contract b m);
+    }

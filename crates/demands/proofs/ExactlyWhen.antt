@@ -132,7 +132,7 @@ first-reflects : (s : Settings) (p : PrivateRecord) (i : Input) → Reflects (eq
 first-reflects s p i = (same-row (rowOf s p i) R1, λ e. eq-eqb (rowNumber (rowOf s p i)) 1 (ap rowNumber e))
 
 -- 8 of R1
-taken-reflects : (s : Settings) (p : PrivateRecord) (i : Input) → Reflects (identifierTaken s p (i .event) (rowOf s p i)) (IdentifierStored s p i)
+pub taken-reflects : (s : Settings) (p : PrivateRecord) (i : Input) → Reflects (identifierTaken s p (i .event) (rowOf s p i)) (IdentifierStored s p i)
 taken-reflects s p i =
     and-reflects (eqb (rowNumber (rowOf s p i)) 1) (sameIdentifier (requestOf s (i .event) .parties) (p .call .parties)) (first-reflects s p i)
     (eqb-reflects (requestOf s (i .event) .parties .identifier) (p .call .parties .identifier))

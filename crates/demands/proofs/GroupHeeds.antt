@@ -14,7 +14,7 @@ use Rattle.call.specs.declared.Settings.{Settings}
 use Rattle.call.specs.declared.GroupAction.{GroupAction}
 use Rattle.call.specs.declared.Input.{Input}
 use Rattle.stepping.specs.Numbers.{argumentsGood}
-use Rattle.stepping.proofs.Stepping.{Taken, tests-pass}
+use Rattle.stepping.proofs.Stepping.{Taken}
 use Rattle.group_record.specs.Formed.{wellFormed}
 use Rattle.group_record.specs.declared.states.State.{State}
 use Rattle.group_record.specs.declared.states.GroupRecord.{GroupRecord}
@@ -27,13 +27,12 @@ use Rattle.group_rows.proofs.Meets.{found-is-met}
 use Rattle.group_call.specs.Effects.{effectOf}
 use Rattle.group_call.specs.Carried.{changes, carryOut}
 use Rattle.group_call.specs.Step.{changeTooEarly}
-use Rattle.group_call.specs.declared.Stepped.{Stepped}
-use Rattle.group_call.proofs.Steps.{number-told, longest-has-room, step-done}
 use Rattle.demands.specs.Machines.{groupMachine}
 use Rattle.demands.specs.GroupPlayed.{doesInGroup}
 use Rattle.demands.specs.Consequences.{IsHeeded, Heeds, NeverStill}
-use Rattle.demands.proofs.GroupMachine.{group-keeps-well-formed}
-use Rattle.demands.proofs.Consequences.{never-still}
+use Rattle.demands.proofs.Reflects.{true-reflects}
+use Rattle.demands.proofs.GroupMachine.{early-reflects, group-keeps-well-formed}
+use Rattle.demands.proofs.Consequences.{group-rows-hold, heeded-by-row, never-still}
 
 -- ---- what is heeded
 
@@ -50,16 +49,17 @@ heeded : (s : Settings) (g : GroupRecord) (i : Input) (f : State) (row : Row) �
     → rowFound s g i f ≡ row → changeTooEarly s g (i .event) row ≡ false → 1 ≤ rowNumber row → changes f (effectOf row f (confirms s i) .to) ≡ true
     → IsHeeded groupMachine s g i
 unfolding carryOut
-heeded s g i f row t e r n h c out room =
+heeded s g i f row t e r n h c =
     let x = factsOf s (g .call) (announcedOf s (i .event) .call) in
     let met : rowOf s g (i .event) ≡ row = ap (λ (f : State). rowIn f (causeOf s (i .event)) x) e ∙ sym (found-is-met f _ _) ∙ r in
-    let z = longest-has-room s g i out room ∙ tests-pass s (wellFormed s g) i _ t (ap (changeTooEarly s g (i .event)) met ∙ n) in
-    let done = step-done s g i out z .0 in (
-      number-told s g i out ∙ z,
-      subst (λ (k : ℕ). 1 ≤ k) (sym (ap (λ (x : Stepped). x .row) done ∙ ap rowNumber met)) h,
-      ap (λ (x : Stepped). changes (g .state) (x .next .state)) done
-          ∙ (λ j. changes (e j) (effectOf (met j) (e j) (confirms s i) .to)) ∙ c,
-    )
+    heeded-by-row groupMachine group-rows-hold s g i
+    (record {
+      settings = t .settings;
+      formed = t .formed;
+      message = t .message;
+      arguments = t .arguments;
+      row = true-reflects (early-reflects s g i) (ap (changeTooEarly s g (i .event)) met ∙ n);
+    }) refl (subst (λ (k : ℕ). 1 ≤ k) (sym (ap rowNumber met)) h) ((λ j. changes (e j) (effectOf (met j) (e j) (confirms s i) .to)) ∙ c)
 
 -- ---- a start that is not refused
 

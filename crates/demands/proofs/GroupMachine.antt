@@ -73,7 +73,7 @@ not-above : (m n : ℕ) → Reflects (not (ltb m n)) (n ≤ m)
 not-above m n = (λ e. ltb-false m n (not-true _ e), λ h. ap not (le-ltb m n h))
 
 -- 8 of G9
-early-reflects : (s : Settings) (g : GroupRecord) (i : Input) → Reflects (changeTooEarly s g (i .event) (rowOf s g (i .event))) (ChangeNotLater s g i)
+pub early-reflects : (s : Settings) (g : GroupRecord) (i : Input) → Reflects (changeTooEarly s g (i .event) (rowOf s g (i .event))) (ChangeNotLater s g i)
 early-reflects s g i =
     and-reflects (eqb (rowNumber (rowOf s g (i .event))) 9) (not (isLater (announcedOf s (i .event) .call) (g .call))) (ninth-reflects s g i)
     (not-above (g .call .«last_change») (announcedOf s (i .event) .call .«last_change»))

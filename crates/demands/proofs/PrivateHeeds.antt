@@ -16,7 +16,7 @@ use Rattle.call.specs.declared.PrivateTimer.{PrivateTimer}
 use Rattle.call.specs.declared.PrivateAction.{PrivateAction}
 use Rattle.call.specs.declared.Input.{Input}
 use Rattle.stepping.specs.Numbers.{heardGood, argumentsGood}
-use Rattle.stepping.proofs.Stepping.{Taken, tests-pass}
+use Rattle.stepping.proofs.Stepping.{Taken}
 use Rattle.private_record.specs.Phases.{stateOf, phaseOf}
 use Rattle.private_record.specs.Formed.{wellFormed}
 use Rattle.private_record.specs.declared.states.State.{State}
@@ -34,14 +34,13 @@ use Rattle.private_effects.specs.Carried.{changes, carryOut}
 use Rattle.private_call.specs.Step.{identifierTaken}
 use Rattle.private_call.proofs.Settling.{startStop}
 use Rattle.private_call.proofs.Holding.{ranged, one-held}
-use Rattle.private_call.proofs.Steps.{number-told}
-use Rattle.private_call.proofs.NumberTable.{longest-has-room}
-use Rattle.private_call.proofs.MarkedSteps.{next-done, row-done}
 use Rattle.demands.specs.Machines.{privateMachine}
 use Rattle.demands.specs.Played.{hears, does, expires}
 use Rattle.demands.specs.Consequences.{IsHeeded, Heeds, NeverStill}
 use Rattle.demands.proofs.Machines.{private-keeps-well-formed}
-use Rattle.demands.proofs.Consequences.{never-still}
+use Rattle.demands.proofs.Reflects.{true-reflects}
+use Rattle.demands.proofs.ExactlyWhen.{taken-reflects}
+use Rattle.demands.proofs.Consequences.{private-rows-hold, heeded-by-row, never-still}
 
 -- ---- what is heeded
 
@@ -53,15 +52,18 @@ rowFound s p i f = foundAt (atOf f) (causeOf s (i .event)) (factsOf s f (p .coun
 heeded : (s : Settings) (p : PrivateRecord) (i : Input) (f : Phase) (row : Row) → Taken s (wellFormed s p) i → phaseOf p ≡ f → rowFound s p i f ≡ row
     → identifierTaken s p (i .event) row ≡ false → 1 ≤ rowNumber row → changes (stateOf f) (effectOf row (stateOf f) .to) ≡ true → IsHeeded privateMachine s p i
 unfolding carryOut
-heeded s p i f row t q r n h c out room =
+heeded s p i f row t q r n h c =
     let state = fit s p (t .formed) .state ∙ ap stateOf q in
     let met : rowOf s p i ≡ row =
     (λ j. rowIn (q j) (causeOf s (i .event)) (factsOf s (q j) (p .counters) (p .call) i)) ∙ sym (found-is-met f _ _) ∙ r in
-    let z = longest-has-room s p i out room ∙ tests-pass s (wellFormed s p) i _ t (ap (identifierTaken s p (i .event)) met ∙ n) in (
-      number-told s p i out ∙ z,
-      subst (λ (k : ℕ). 1 ≤ k) (sym (row-done s p i out z ∙ ap rowNumber met)) h,
-      ap (λ (x : PrivateRecord). changes (p .state) (x .state)) (next-done s p i out z) ∙ (λ j. changes (state j) (effectOf (met j) (state j) .to)) ∙ c,
-    )
+    heeded-by-row privateMachine private-rows-hold s p i
+    (record {
+      settings = t .settings;
+      formed = t .formed;
+      message = t .message;
+      arguments = t .arguments;
+      row = true-reflects (taken-reflects s p i) (ap (identifierTaken s p (i .event)) met ∙ n);
+    }) refl (subst (λ (k : ℕ). 1 ≤ k) (sym (ap rowNumber met)) h) ((λ j. changes (state j) (effectOf (met j) (state j) .to)) ∙ c)
 
 -- ---- a start that is not refused
 

@@ -5,7 +5,11 @@ use mathlib.Core.List.{List}
 use Prim.Native.Nat.{ℕ, _<_}
 use Rattle.call.specs.declared.Settings.{Settings}
 use Rattle.call.specs.declared.Input.{Input}
-use Rattle.demands.specs.Machines.{Answer, Machine}
+use Rattle.group_record.specs.declared.states.Timers.{Timers}
+use Rattle.group_record.specs.declared.states.GroupRecord.{GroupRecord}
+use Rattle.group_call.specs.Hearing.{Build}
+use Rattle.group_call.specs.declared.Stepped.{Stepped}
+use Rattle.demands.specs.Machines.{Answer, Machine, groupMachine}
 
 -- a build of a call machine: for all settings, records, inputs and lent buffers an answer, and the buffer after it
 pub record BuildOf (M : Machine) : Type 0 where
@@ -65,3 +69,13 @@ NeverVaries M b =
 -- it tells a row above the last
 abbrev pub MakesUpRow : (M : Machine) → ℕ → BuildOf M → Type 0
 MakesUpRow M last b = (s : Settings) × (p : M .Stored) × (i : Input) × (out : List ℕ) × (last < b .answer s p i out .row)
+
+-- ---- of the group call machine
+
+-- an answer as the step gives it
+abbrev pub steppedAs : Answer GroupRecord Timers → Stepped
+steppedAs a = record { number = a .number; row = a .row; next = a .next; stop = a .stop; start = a .start; length = a .length }
+
+-- a build of the machine is one of its step
+abbrev pub asStep : BuildOf groupMachine → Build
+asStep b s g i out = (steppedAs (b .answer s g i out), b .after s g i out)

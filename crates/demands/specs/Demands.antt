@@ -19,7 +19,7 @@ use Rattle.demands.specs.ExactlyWhen.{GivenExactlyWhen, lineTable, write
 use Rattle.demands.specs.NothingChanges.{NothingChanges, ReadNothingChanges, ChooseNothingChanges, StepNothingChanges}
 use Rattle.demands.specs.Machines.{Machine, RowsHold, CarriesOut, KeepsWellFormed, SendsGood, TimersAgree, ChangeStops, SparesRanOut, privateMachine, groupMachine}
 use Rattle.demands.specs.Consequences.{lastPrivateRow, lastGroupRow, KnownRows, EveryRowTold, Heeds, NeverStill, Varies}
-use Rattle.demands.specs.Builds.{BuildOf, builtAs, SameAs, RefusesAll, DiscardsAll, StandsStill, NeverVaries, MakesUpRow}
+use Rattle.demands.specs.Builds.{BuildOf, builtAs, asStep, SameAs, RefusesAll, DiscardsAll, StandsStill, NeverVaries, MakesUpRow}
 use Rattle.demands.specs.SameCall.{KeepsContract, BestCall, SameCall, AnyOrder}
 
 -- ---- Demand 1: whatever comes in gets an answer; what is bad gets its number, and nothing else happens
@@ -145,3 +145,5 @@ pub record Demand3 : Type 0 where
   pub twoCabs : (b : Build) → KeepsContract b → SameCall b
   -- order, repeats, unreadable lines and other traffic count for nothing
   pub anyOrder : (b : Build) → KeepsContract b → AnyOrder b
+  -- a build that meets the first two demands meets this one
+  pub fromTheOthers : (b : BuildOf groupMachine) → MeetsDemands groupMachine b → SameCall (asStep b)

@@ -104,7 +104,7 @@ pub record MeetsDemands (M : Machine) (b : BuildOf M) : Type 0 where
   pub numbers : StepExactlyWhen (builtAs M b)
   -- and nothing else then
   pub keeps : StepNothingChanges (builtAs M b)
-  -- rows hold from every well-formed record
+  -- rows hold, whatever well-formed record a step starts from
   pub rows : RowsHold (builtAs M b)
 
 -- what follows for a build that meets the demands

@@ -57,7 +57,7 @@ fn calls_choice(first: GroupCall, second: GroupCall) -> u8
 }
 
 // Which of two lines is chosen: 1 the first, 2 the second, 0 neither.
-fn choice(first: &[u8], second: &[u8]) -> u8
+pub fn choice(first: &[u8], second: &[u8]) -> u8
     ensures { λ r. ⌜ r ≡ choiceOf (now (first .entry)) (now (second .entry)) ⌝ }
 {
     let one = line_announced(first);

@@ -1,0 +1,124 @@
+// The program that plays the run-and-compare cases through the machines and writes each line that they send.
+use call::Action;
+use call::Counters;
+use call::Event;
+use call::GroupAction;
+use call::GroupStart;
+use call::Input;
+use call::PrivateAction;
+use call::PrivateStart;
+use call::Settings;
+use call::Verdicts;
+use frame::Media;
+use frame::Message;
+use frame::Read;
+use libc::STDERR_FILENO;
+use libc::STDOUT_FILENO;
+use private_record::states::PrivateRecord;
+
+// What user 9 sends to accept the call, with media 6.
+const ACCEPT: [u8; 31] = *b"031234000000070000000900000006\n";
+
+// User 7 of group 3, who sends each message three times at most.
+fn crew() -> Settings {
+    Settings {
+        own_user: 7,
+        own_group: 3,
+        restrict: false,
+        acknowledgement: false,
+        limits: Counters {
+            cfp1: 3,
+            cfp3: 3,
+            cfp4: 3,
+        },
+    }
+}
+
+// An event with this media beside it, where the media can be set up and the signature is good.
+fn input(event: Event, media: u32) -> Input {
+    Input {
+        event: event,
+        media: Media { number: media },
+        verdicts: Verdicts {
+            media: true,
+            signature: true,
+        },
+    }
+}
+
+// Writes the line of this length that a step sent, and says on standard error where there is none.
+fn show(out: &[u8], length: usize) {
+    if length == 0 {
+        io::write_all(STDERR_FILENO, b"vectors: a step sent no line\n");
+    }
+    if length <= out.len() {
+        if !io::write_all(STDOUT_FILENO, &out[..length]) {
+            io::write_all(STDERR_FILENO, b"vectors: a line could not be written\n");
+        }
+    }
+}
+
+// One step of the private call machine: shows the line that it sends, and gives the next record.
+fn private_step(stored: PrivateRecord, taken: Input) -> PrivateRecord {
+    let mut out = [0u8; Message::LONGEST];
+    let stepped = private_call::step(crew(), stored, taken, &mut out);
+    show(&out, stepped.length);
+    stepped.next
+}
+
+// User 7 starts the private call 1234 to user 9, automatic, without security, with media 5.
+fn starts() -> Input {
+    let start = PrivateStart {
+        identifier: 0x1234,
+        callee: 9,
+        commencement: 0,
+        pck_id: 0,
+    };
+    input(
+        Event::Action(Action::Private(PrivateAction::Start(start))),
+        5,
+    )
+}
+
+// User 7 hears the accept of user 9; a line that is not readable would be an end of the call by the user.
+fn hears_accept() -> Input {
+    let reading = frame::read_line(&ACCEPT);
+    let media = reading.media;
+    let read = reading.read;
+    match read {
+        Read::Readable(message) => input(Event::Message(message), media.number),
+        Read::Refused(_) => ends(),
+    }
+}
+
+// User 7 ends the call.
+fn ends() -> Input {
+    input(Event::Action(Action::Private(PrivateAction::End)), 0)
+}
+
+// User 7 starts the group call 16: emergency, refresh 30, media 5, at the time 1000, and asks the others to confirm.
+fn starts_group_call() -> Input {
+    let start = GroupStart {
+        identifier: 16,
+        call_type: 2,
+        refresh: 30,
+        confirm: 1,
+        now: 1000,
+    };
+    input(Event::Action(Action::Group(GroupAction::Start(start))), 5)
+}
+
+// The private call, from start to end, and the announcement of the group call.
+fn main() {
+    let called = private_step(private_record::states::cleared_record(), starts());
+    let accepted = private_step(called, hears_accept());
+    private_step(accepted, ends());
+    let mut out = [0u8; Message::LONGEST];
+    let announced = group_call::step(
+        crew(),
+        group_record::states::cleared_record(),
+        starts_group_call(),
+        &mut out,
+    );
+    show(&out, announced.length);
+}

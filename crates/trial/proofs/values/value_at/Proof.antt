@@ -1,0 +1,15 @@
+-- `trial::values::value_at` meets its contract: what is known at each return gives the case. Assumes nothing.
+use mathlib.Core.Path.{sym}
+use Rattle.trial.proofs.Beyond.{beyond}
+use borrow.Author.Needs.{needs}
+use Rattle.trial.proofs.values.value_at.Statement.{statement}
+use Rattle.trial.proofs.values.value_at.Tie as tie
+
+pub value-at-spec : {M : Type 1} → statement M
+value-at-spec =
+    tie.close
+    (tie.spec
+    (λ c. search needs)
+    (λ c. search needs)
+    (λ c. search needs)
+    (λ c. sym (beyond (c .before .args .values .now) (c .before .args .place) (c .if1 .left))))

@@ -1,0 +1,84 @@
+-- A frame as numbers, one a field, in the order of its line: kind, identifier, and what follows. Assumes nothing.
+use Prim.Native.Nat.{ℕ, _+_, _%_}
+use mathlib.Core.List.{List, [], _∷_, _++_}
+use mathlib.Core.Bool.{Bool, not, cond}
+use lib.ListN.{getD, length}
+use Rattle.frame.specs.Digits.{Width, one, twice}
+use Rattle.frame.specs.Range.{within}
+use Rattle.frame.specs.Media.{noMedia}
+use Rattle.frame.specs.Frame.{kindOf, carries}
+use Rattle.frame.specs.Layout.{front, back, frontOf, backOf}
+use Rattle.frame.specs.Line.{messageOf, readLine}
+use Rattle.frame.specs.declared.Media.{Media}
+use Rattle.frame.specs.declared.Message.{Message}
+use Rattle.frame.specs.declared.Read.{Read}
+use Rattle.frame.specs.declared.Read.the-variants.{Readable, Refused}
+use Rattle.writer.specs.Writing.{writeNumber, bufferOf}
+
+-- ---- the values of a frame
+
+-- the media's number, where the kind carries media
+abbrev pub mediaValues : ℕ → Media → List ℕ
+mediaValues kind media = cond (carries kind) (media .number ∷ []) []
+
+-- the values of a frame
+abbrev pub frameValues : Message → Media → List ℕ
+frameValues m media = frontOf m ++ (mediaValues (kindOf m) media ++ backOf m)
+
+-- the values of what a line reads as, none where it is refused
+abbrev pub readValues : Read → Media → List ℕ
+readValues (Readable m) media = frameValues m media
+readValues (Refused n) media = []
+
+-- the values of a line
+unfoldable pub lineValues : List ℕ → List ℕ
+lineValues l = readValues (readLine l .read) (readLine l .media)
+
+-- ---- the frame of values
+
+-- a value of four bytes, cut to the width of its field
+abbrev pub cut : Width → ℕ → ℕ
+cut one v = v % 256
+cut (twice one) v = v % 65536
+cut (twice (twice w)) v = v
+
+-- the values from a place on, one a width; what is not there is 0
+abbrev pub valuesAt : List Width → List ℕ → ℕ → List ℕ
+valuesAt [] values place = []
+valuesAt (w ∷ ws) values place = cut w (getD values place 0) ∷ valuesAt ws values (place + 1)
+
+-- the kind is the first value
+abbrev pub kindIn : List ℕ → ℕ
+kindIn values = getD values 0 0
+
+-- the place of the media: it stands behind the front
+abbrev pub mediaIndex : ℕ → ℕ
+mediaIndex kind = length (front kind)
+
+-- the place where the back begins
+abbrev pub backIndex : ℕ → ℕ
+backIndex kind = mediaIndex kind + cond (carries kind) 1 0
+
+-- the message of a kind with these values
+abbrev pub messageIn : ℕ → List ℕ → Message
+messageIn kind values = messageOf kind (valuesAt (front kind) values 0) (valuesAt (back kind) values (backIndex kind))
+
+-- the media of a kind with these values
+abbrev pub mediaIn : ℕ → List ℕ → Media
+mediaIn kind values = cond (carries kind) (record { number = getD values (mediaIndex kind) 0 }) noMedia
+
+-- ---- writing values
+
+-- the first value is none of the nine kinds
+abbrev pub noKind : List ℕ → Bool
+noKind values = not (within 1 (kindIn values) 9)
+
+-- 3 where there is no kind, else the number of writing the frame: 0, 5 or 6
+unfoldable pub valuesNumber : List ℕ → List ℕ → ℕ
+valuesNumber values out =
+    cond (noKind values) 3 (writeNumber (messageIn (kindIn values) values) (mediaIn (kindIn values) values) out)
+
+-- the buffer with the frame's line at its front, or as it was
+unfoldable pub valuesBuffer : List ℕ → List ℕ → List ℕ
+valuesBuffer values out =
+    cond (noKind values) out (bufferOf (messageIn (kindIn values) values) (mediaIn (kindIn values) values) out)

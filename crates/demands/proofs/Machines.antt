@@ -7,7 +7,7 @@ use Rattle.stepping.proofs.Stepping.{SentGood}
 use Rattle.private_record.specs.Phases.{has}
 use Rattle.private_record.specs.declared.states.Timers.{Timers}
 use Rattle.private_record.proofs.WellFormed.{has-set}
-use Rattle.private_effects.specs.Carried.{runningAfter}
+use Rattle.private_carried.specs.Carried.{runningAfter}
 use Rattle.private_call.specs.Step.{doneOf}
 use Rattle.private_call.proofs.Keeping.{carried-sends-good}
 use Rattle.private_call.proofs.Steps.{number-told, step-done, keeps-well-formed, timers-agree}

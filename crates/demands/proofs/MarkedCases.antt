@@ -25,7 +25,7 @@ use Rattle.private_record.specs.declared.states.Phase.{Phase}
 use Rattle.private_record.specs.declared.states.Timers.{Timers}
 use Rattle.private_record.proofs.WellFormed.{fit}
 use Rattle.private_rows.specs.Rows.{rowIn}
-use Rattle.private_effects.specs.Carried.{startedOf, stoppedOf, runningAfter, countersAfter, carryOut}
+use Rattle.private_carried.specs.Carried.{startedOf, stoppedOf, runningAfter, countersAfter, carryOut}
 use Rattle.private_call.specs.Step.{stepOf}
 use Rattle.private_call.specs.declared.Stepped.{Stepped}
 use Rattle.private_call.proofs.MarkedSteps.{expiry-discarded, second-accept, last-expiry}

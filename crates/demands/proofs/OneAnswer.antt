@@ -16,7 +16,8 @@ use Rattle.stepping.proofs.write_sent.Reads as write-sent
 use Rattle.private_record.proofs.well_formed.Reads as well-formed
 use Rattle.private_record.proofs.states.cleared_record.Reads as cleared-record
 use Rattle.private_rows.proofs.row_of.Reads as row-of
-use Rattle.private_effects.proofs.carry_out.Reads as carry-out
+use Rattle.private_effects.proofs.effect_of.Reads as effect-of
+use Rattle.private_carried.proofs.carry_out.Reads as carry-out
 use Rattle.private_call.proofs.step.Reads as step
 use Rattle.group_order.proofs.rank.Reads as rank
 use Rattle.group_order.proofs.better.Reads as better
@@ -98,6 +99,10 @@ cleared-record-one κs = result-alone (λ a. tt) (λ a r q s t x y. same x y)
 -- the row that an event meets
 pub row-of-one : (κs : Lifetimes.Lfts 0) → OneAnswer (row-of.Asked κs) (row-of.Learnt κs) (λ r. r) (λ t. tt {0})
 row-of-one κs = result-alone (λ a. tt) (λ a r q s t x y. same x y)
+
+-- what a row does
+pub effect-of-one : (κs : Lifetimes.Lfts 0) → OneAnswer (effect-of.Asked κs) (effect-of.Learnt κs) (λ r. r) (λ t. tt {0})
+effect-of-one κs = result-alone (λ a. tt) (λ a r q s t x y. same x y)
 
 -- what carrying out a row gives
 pub carry-out-one : (κs : Lifetimes.Lfts 0) → OneAnswer (carry-out.Asked κs) (carry-out.Learnt κs) (λ r. r) (λ t. tt {0})

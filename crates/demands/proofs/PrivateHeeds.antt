@@ -30,7 +30,7 @@ use Rattle.private_rows.specs.declared.rows.Row.{Row}
 use Rattle.private_rows.specs.declared.rows.Row.the-variants.{R1, R8, R9, R13, R25, R28}
 use Rattle.private_rows.proofs.Meets.{found-is-met}
 use Rattle.private_effects.specs.Effects.{effectOf}
-use Rattle.private_effects.specs.Carried.{changes, carryOut}
+use Rattle.private_carried.specs.Carried.{changes, carryOut}
 use Rattle.private_call.specs.Step.{identifierTaken}
 use Rattle.private_call.proofs.Settling.{startStop}
 use Rattle.private_call.proofs.Holding.{ranged, one-held}

@@ -26,7 +26,7 @@ use Rattle.private_record.specs.declared.states.Timers as PrivateTimers
 use Rattle.private_record.specs.declared.states.PrivateRecord.{PrivateRecord}
 use Rattle.private_rows.specs.Rows.{rowOf}
 use Rattle.private_rows.specs.declared.rows.Row.the-variants.{R1}
-use Rattle.private_effects.specs.Carried as Carried
+use Rattle.private_carried.specs.Carried as Carried
 use Rattle.private_call.specs.Step.{doneOf, stepLine, movedOf, stepOf, stepBuffer}
 use Rattle.private_call.specs.declared.Stepped.{Stepped}
 use Rattle.group_record.specs.States as GroupStates

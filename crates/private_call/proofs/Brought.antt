@@ -24,7 +24,7 @@ use Rattle.private_record.specs.declared.states.Timers.{Timers}
 use Rattle.private_rows.specs.Causes.{setupCause, causeOf}
 use Rattle.private_rows.specs.Rows.{sameCause}
 use Rattle.private_rows.specs.declared.causes.Cause.{Cause}
-use Rattle.private_effects.specs.Carried.{ranOut}
+use Rattle.private_carried.specs.Carried.{ranOut}
 
 -- ---- the timer that ran out
 

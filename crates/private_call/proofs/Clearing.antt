@@ -23,7 +23,7 @@ use Rattle.private_rows.specs.declared.causes.Facts.{Facts}
 use Rattle.private_rows.specs.declared.rows.Row.{Row}
 use Rattle.private_rows.specs.declared.rows.Row.the-variants.{R28}
 use Rattle.private_effects.specs.Effects.{effectOf}
-use Rattle.private_effects.specs.Carried.{startedOf, stoppedOf, runningAfter, countersAfter, startedBy, stoppedBy, runningBy, carryOut}
+use Rattle.private_carried.specs.Carried.{startedOf, stoppedOf, runningAfter, countersAfter, startedBy, stoppedBy, runningBy, carryOut}
 use Rattle.private_call.specs.Step.{stepOf}
 use Rattle.private_call.specs.Running.{expiry}
 use Rattle.private_call.specs.declared.Stepped.{Stepped}

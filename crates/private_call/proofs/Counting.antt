@@ -12,7 +12,7 @@ use Rattle.call.specs.declared.Counters.{Counters}
 use Rattle.call.proofs.Laws.{both}
 use Rattle.private_record.specs.Formed.{counterGood, countersGood}
 use Rattle.private_record.specs.declared.states.Timers.{Timers}
-use Rattle.private_effects.specs.Carried.{oneMore, counterAfter, countersAfter, runningAfter}
+use Rattle.private_carried.specs.Carried.{oneMore, counterAfter, countersAfter, runningAfter}
 
 -- between its ends
 inside : (low n high : ℕ) → low ≤ n → n ≤ high → within low n high ≡ true

@@ -21,8 +21,8 @@ use Rattle.private_rows.specs.Rows.{rowOf}
 use Rattle.private_rows.specs.declared.causes.Cause.{Cause}
 use Rattle.private_rows.specs.declared.rows.Row.the-variants.{Discard}
 use Rattle.private_effects.specs.Effects.{effectOf}
-use Rattle.private_effects.specs.Carried.{ranOut, changes, startedOf, stoppedOf, runningAfter, counterAfter, countersAfter, startedBy, stoppedBy, runningBy, carryOut}
-use Rattle.private_effects.specs.declared.Carried.{Carried}
+use Rattle.private_carried.specs.Carried.{ranOut, changes, startedOf, stoppedOf, runningAfter, counterAfter, countersAfter, startedBy, stoppedBy, runningBy, carryOut}
+use Rattle.private_carried.specs.declared.Carried.{Carried}
 use Rattle.private_call.proofs.Brought.{outOf, ran-out-of}
 use Rattle.private_call.proofs.Settling.{less, Sound, rows-sound}
 

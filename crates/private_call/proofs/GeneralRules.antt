@@ -16,8 +16,8 @@ use Rattle.private_record.proofs.WellFormed.{has-set}
 use Rattle.private_rows.specs.Rows.{rowOf}
 use Rattle.private_rows.specs.declared.rows.Row.{Row}
 use Rattle.private_effects.specs.Effects.{effectOf}
-use Rattle.private_effects.specs.Carried.{ranOut, changes, startedOf, stoppedOf, countersAfter, startedBy, carryOut}
-use Rattle.private_effects.specs.declared.effects.Effect.{Effect}
+use Rattle.private_effects.specs.declared.Effect.{Effect}
+use Rattle.private_carried.specs.Carried.{ranOut, changes, startedOf, stoppedOf, countersAfter, startedBy, carryOut}
 use Rattle.private_call.specs.Step.{stepNumber, stepOf}
 use Rattle.private_call.specs.declared.Stepped.{Stepped}
 use Rattle.private_call.specs.NoReply.{Counter, cfp1, cfp3, cfp4, countIn, timerOf}

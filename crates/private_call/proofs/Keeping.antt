@@ -27,12 +27,12 @@ use Rattle.private_rows.specs.Causes.{causeOf, factsOf}
 use Rattle.private_rows.specs.Rows.{rowOf}
 use Rattle.private_rows.specs.declared.causes.Cause.{Cause}
 use Rattle.private_rows.specs.declared.rows.Row.{Row}
-use Rattle.private_effects.specs.Effects.{reasonNumber, effectOf}
-use Rattle.private_effects.specs.Carried.{ranOut, runningBy, stoppedBy, startedBy, callOf, heldOf, reasonOr, sentOf, carryOut}
-use Rattle.private_effects.specs.declared.effects.Hold.{Hold}
-use Rattle.private_effects.specs.declared.effects.Reason.{Reason}
-use Rattle.private_effects.specs.declared.effects.Say.{Say}
-use Rattle.private_effects.specs.declared.effects.Effect.{Effect}
+use Rattle.private_effects.specs.Effects.{effectOf}
+use Rattle.private_effects.specs.declared.Hold.{Hold}
+use Rattle.private_effects.specs.declared.Reason.{Reason}
+use Rattle.private_effects.specs.declared.Say.{Say}
+use Rattle.private_effects.specs.declared.Effect.{Effect}
+use Rattle.private_carried.specs.Carried.{ranOut, runningBy, stoppedBy, startedBy, callOf, heldOf, reasonNumber, reasonOr, sentOf, carryOut}
 use Rattle.private_call.proofs.Brought.{outOf, ran-out-of, Brings, brings, bringsCall}
 use Rattle.private_call.proofs.Settling.{mayHold, holdsOne, maySay, Sound, rows-sound}
 use Rattle.private_call.proofs.Counting.{counters-keep}

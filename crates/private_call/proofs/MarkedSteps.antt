@@ -32,7 +32,7 @@ use Rattle.private_rows.specs.declared.rows.Row.{Row}
 use Rattle.private_rows.specs.declared.rows.Row.the-variants.{Discard, R3, R23}
 use Rattle.private_rows.proofs.Meets.{same-row, found-is-met, quiet-expiry}
 use Rattle.private_effects.specs.Effects.{effectOf}
-use Rattle.private_effects.specs.Carried.{startedOf, stoppedOf, runningAfter, runningBy, carryOut}
+use Rattle.private_carried.specs.Carried.{startedOf, stoppedOf, runningAfter, runningBy, carryOut}
 use Rattle.private_call.specs.Step.{numberBeforeSending, doneOf, stepLine, refusedOf, discarded, movedOf, stepNumber, stepOf, stepBuffer}
 use Rattle.private_call.specs.declared.Stepped.{Stepped}
 use Rattle.private_call.specs.Running.{expiry, userAccepts}

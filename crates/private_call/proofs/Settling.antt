@@ -15,9 +15,9 @@ use Rattle.private_rows.specs.declared.causes.Facts.{Facts}
 use Rattle.private_rows.specs.declared.rows.Row.{Row}
 use Rattle.private_rows.proofs.Meets.{each-row}
 use Rattle.private_effects.specs.Effects.{effectOf}
-use Rattle.private_effects.specs.Carried.{startedOf, stoppedOf, runningAfter, runningBy}
-use Rattle.private_effects.specs.declared.effects.Hold.{Hold}
-use Rattle.private_effects.specs.declared.effects.Say.{Say}
+use Rattle.private_effects.specs.declared.Hold.{Hold}
+use Rattle.private_effects.specs.declared.Say.{Say}
+use Rattle.private_carried.specs.Carried.{startedOf, stoppedOf, runningAfter, runningBy}
 use Rattle.private_call.proofs.Brought.{outOf, bringsCall, bringsMedia}
 
 -- ---- the timers

@@ -21,8 +21,8 @@ use Rattle.private_rows.specs.Rows.{rowNumber, rowOf}
 use Rattle.private_rows.specs.declared.rows.Row.{Row}
 use Rattle.private_rows.specs.declared.rows.Row.the-variants.{Discard}
 use Rattle.private_rows.proofs.Meets.{same-row}
-use Rattle.private_effects.specs.Carried.{ranOut, runningAfter, carryOut}
-use Rattle.private_effects.specs.declared.Carried.{Carried}
+use Rattle.private_carried.specs.Carried.{ranOut, runningAfter, carryOut}
+use Rattle.private_carried.specs.declared.Carried.{Carried}
 use Rattle.private_call.proofs.Keeping.{carried-well-formed, carried-sends-good}
 use Rattle.private_call.proofs.Discarding.{carried-nothing}
 use Rattle.private_call.specs.declared.Stepped.{Stepped}

@@ -1,24 +1,15 @@
 -- What each row R1 to R29 does, one clause a row. Assumes nothing.
 -- What holds for all rows is not said here: that a state change stops what runs on, that entering P1 starts TFP7, and what is sent by default.
-use Prim.Native.Nat.{ℕ}
 use mathlib.Core.Bool.{true, false}
 use Rattle.private_record.specs.Phases.{noTimer, tfp1, tfp2, tfp3, tfp4, tfp5, tfp7}
 use Rattle.private_record.specs.declared.states.State.{State}
 use Rattle.private_record.specs.declared.states.Timers.{Timers}
 use Rattle.private_rows.specs.declared.rows.Row.{Row}
 use Rattle.private_rows.specs.declared.rows.Row.the-variants.{Discard, R1, R2, R3, R4, R5, R6, R7, R8, R9, R10, R11, R12, R13, R14, R15, R16, R17, R18, R19, R20, R21, R22, R23, R24, R25, R26, R27, R28, R29}
-use Rattle.private_effects.specs.declared.effects.Hold.{Hold}
-use Rattle.private_effects.specs.declared.effects.Reason.{Reason}
-use Rattle.private_effects.specs.declared.effects.Say.{Say}
-use Rattle.private_effects.specs.declared.effects.Effect.{Effect}
-
--- the reasons of a reject by their numbers
-abbrev pub reasonNumber : Reason → ℕ
-reasonNumber Reason.Reject = 0
-reasonNumber Reason.MediaFailure = 1
-reasonNumber Reason.Busy = 2
-reasonNumber Reason.SecurityFailure = 3
-reasonNumber Reason.Failed = 4
+use Rattle.private_effects.specs.declared.Hold.{Hold}
+use Rattle.private_effects.specs.declared.Reason.{Reason}
+use Rattle.private_effects.specs.declared.Say.{Say}
+use Rattle.private_effects.specs.declared.Effect.{Effect}
 
 -- a row that enters a state: it starts timers, and the counter of a timer that it starts is 1
 abbrev pub enters : State → Timers → Hold → Say → Effect

@@ -1,59 +1,166 @@
-// What carrying out a row of the private call machine gives.
-mod effects;
-mod settled;
-
+// What each row of the private call machine does.
 ghost use mathlib.Core.Path.{_≡_};
-ghost use Rattle.private_effects.specs.Carried.{carryOut};
-use crate::effects::effect_of;
-use call::Input;
-use call::Send;
-use call::Settings;
-use call::request_of;
-use private_record::states::PrivateRecord;
+ghost use Rattle.private_effects.specs.Effects.{enters as entersOf, takes as takesOf, ends as endsOf};
+ghost use Rattle.private_effects.specs.Effects.{stays as staysOf, repeats as repeatsOf, turns as turnsOf};
+ghost use Rattle.private_effects.specs.Effects.{effectOf};
+use private_record::states::State;
 use private_record::states::Timers;
 use private_rows::rows::Row;
 
-// What carrying out a row gives: the next record, the timers to stop, then those to start, and what is sent.
-pub struct Carried {
-    pub next: PrivateRecord,
-    pub stop: Timers,
-    pub start: Timers,
-    pub sent: Send,
+// Which call the record holds afterwards.
+pub enum Hold {
+    // The stored one.
+    Keep,
+    // The one of the setup request.
+    Request,
+    // The stored one, with the media that came with the message.
+    Media,
+    // None.
+    Clear,
 }
 
-// What carrying out a row gives.
-pub fn carry_out(settings: Settings, stored: PrivateRecord, input: Input, row: Row) -> Carried
-    ensures { λ r. ⌜ r ≡ carryOut settings stored input row ⌝ }
+// The reasons of a reject.
+pub enum Reason {
+    Reject,
+    MediaFailure,
+    Busy,
+    SecurityFailure,
+    Failed,
+}
+
+// What a row sends.
+pub enum Say {
+    Nothing,
+    SetupRequest,
+    Ringing,
+    Accept,
+    Release,
+    ReleaseAck,
+    AcceptAck,
+    // A reject with this reason, or FAILED where reasons are kept back.
+    Reject(Reason),
+    // BUSY, or FAILED where reasons are kept back, with the identifier and the users of the message received.
+    RejectOther,
+}
+
+// What a row does.
+pub struct Effect {
+    // The state afterwards.
+    pub to: State,
+    // The timers that it stops though the state stays.
+    pub stop: Timers,
+    // The timers that it starts.
+    pub start: Timers,
+    // Whether it adds 1 to the counter of a timer that it starts; else that counter is 1.
+    pub again: bool,
+    pub hold: Hold,
+    pub say: Say,
+}
+
+// A row that enters a state.
+fn enters(to: State, start: Timers, hold: Hold, say: Say) -> Effect
+    ensures { λ r. ⌜ r ≡ entersOf to start hold say ⌝ }
 {
-    let state = stored.state;
-    let was = stored.running;
-    let counters = stored.counters;
-    let call = stored.call;
-    let event = input.event;
-    let media = input.media;
-    let limits = settings.limits;
-    let effect = effect_of(row, state);
-    let to = effect.to;
-    let start = effect.start;
-    let asked = effect.stop;
-    let hold = effect.hold;
-    let say = effect.say;
-    let request = request_of(settings, event);
-    let other = request.parties;
-    let out = settled::ran_out(event);
-    let started = settled::started(state, to, start);
-    let stopped = settled::stopped(settled::state_changes(state, to), asked, was, started, out);
-    let running = settled::running_after(was, stopped, out, started);
-    let held = settled::held(hold, call, request, media);
-    Carried {
-        next: PrivateRecord {
-            state: to,
-            running: running,
-            counters: settled::counters_after(running, started, effect.again, limits, counters),
-            call: held,
-        },
-        stop: stopped,
-        start: started,
-        sent: settled::sent(settings, say, held, other),
+    Effect {
+        to: to,
+        stop: Timers::NONE,
+        start: start,
+        again: false,
+        hold: hold,
+        say: say,
+    }
+}
+
+// A row that stores the setup request and enters a state.
+fn takes(to: State, start: Timers, say: Say) -> Effect
+    ensures { λ r. ⌜ r ≡ takesOf to start say ⌝ }
+{
+    enters(to, start, Hold::Request, say)
+}
+
+// A row that ends what was, and enters P1.
+fn ends(say: Say) -> Effect
+    ensures { λ r. ⌜ r ≡ endsOf say ⌝ }
+{
+    enters(State::P1, Timers::NONE, Hold::Keep, say)
+}
+
+// A row that leaves state and timers as they are.
+fn stays(state: State, hold: Hold, say: Say) -> Effect
+    ensures { λ r. ⌜ r ≡ staysOf state hold say ⌝ }
+{
+    Effect {
+        to: state,
+        stop: Timers::NONE,
+        start: Timers::NONE,
+        again: false,
+        hold: hold,
+        say: say,
+    }
+}
+
+// A row that says again what got no reply.
+fn repeats(state: State, start: Timers, say: Say) -> Effect
+    ensures { λ r. ⌜ r ≡ repeatsOf state start say ⌝ }
+{
+    Effect {
+        to: state,
+        stop: Timers::NONE,
+        start: start,
+        again: true,
+        hold: Hold::Keep,
+        say: say,
+    }
+}
+
+// A row that puts one timer in another's place.
+fn turns(state: State, stop: Timers, start: Timers, say: Say) -> Effect
+    ensures { λ r. ⌜ r ≡ turnsOf state stop start say ⌝ }
+{
+    Effect {
+        to: state,
+        stop: stop,
+        start: start,
+        again: false,
+        hold: Hold::Keep,
+        say: say,
+    }
+}
+
+// What a row does: the table of the rows.
+pub fn effect_of(row: Row, state: State) -> Effect
+    ensures { λ r. ⌜ r ≡ effectOf row state ⌝ }
+{
+    match row {
+        Row::Discard => stays(state, Hold::Keep, Say::Nothing),
+        Row::R1 => takes(State::P2, Timers::TFP1, Say::SetupRequest),
+        Row::R2 => repeats(state, Timers::TFP1, Say::SetupRequest),
+        Row::R3 => ends(Say::Nothing),
+        Row::R4 => turns(state, Timers::TFP1, Timers::TFP2, Say::Nothing),
+        Row::R5 => enters(State::P4, Timers::TFP5, Hold::Media, Say::AcceptAck),
+        Row::R6 => ends(Say::Nothing),
+        Row::R7 => ends(Say::Nothing),
+        Row::R8 => enters(State::P3, Timers::TFP3, Hold::Keep, Say::Release),
+        Row::R9 => enters(State::P3, Timers::TFP3, Hold::Keep, Say::Release),
+        Row::R10 => repeats(state, Timers::TFP3, Say::Release),
+        Row::R11 => ends(Say::Nothing),
+        Row::R12 => ends(Say::Nothing),
+        Row::R13 => ends(Say::ReleaseAck),
+        Row::R14 => stays(state, Hold::Keep, Say::ReleaseAck),
+        Row::R15 => ends(Say::Nothing),
+        Row::R16 => repeats(state, Timers::TFP4, Say::Accept),
+        Row::R17 => ends(Say::Nothing),
+        Row::R18 => enters(State::P4, Timers::TFP5, Hold::Keep, Say::Nothing),
+        Row::R19 => takes(State::P1, Timers::TFP7, Say::Reject(Reason::MediaFailure)),
+        Row::R20 => takes(State::P5, Timers::TFP4, Say::Accept),
+        Row::R21 => stays(state, Hold::Request, Say::Reject(Reason::SecurityFailure)),
+        Row::R22 => takes(State::P5, Timers::TFP2, Say::Ringing),
+        Row::R23 => turns(state, Timers::TFP2, Timers::TFP4, Say::Accept),
+        Row::R24 => ends(Say::Reject(Reason::SecurityFailure)),
+        Row::R25 => ends(Say::Reject(Reason::Reject)),
+        Row::R26 => ends(Say::Reject(Reason::Failed)),
+        Row::R27 => stays(state, Hold::Keep, Say::RejectOther),
+        Row::R28 => enters(State::P0, Timers::NONE, Hold::Clear, Say::Nothing),
+        Row::R29 => stays(state, Hold::Keep, Say::AcceptAck),
     }
 }

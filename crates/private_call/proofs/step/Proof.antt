@@ -8,8 +8,8 @@ use Rattle.stepping.specs.Sending.{sendTold, sendBuffer}
 use Rattle.private_record.specs.Formed.{wellFormed}
 use Rattle.private_rows.specs.Rows.{rowOf}
 use Rattle.private_rows.specs.declared.rows.Row.{Row}
-use Rattle.private_effects.specs.Carried.{carryOut}
-use Rattle.private_effects.specs.declared.Carried.{Carried}
+use Rattle.private_carried.specs.Carried.{carryOut}
+use Rattle.private_carried.specs.declared.Carried.{Carried}
 use Rattle.private_call.specs.Step.{identifierTaken, doneOf, refusedOf, movedOf}
 use Rattle.private_call.proofs.Answers.{refused-first, refused-by-row, refused-sending, carried-out}
 use borrow.Author.Needs.{needs}

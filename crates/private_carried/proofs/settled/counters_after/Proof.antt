@@ -1,0 +1,15 @@
+-- `private_carried::settled::counters_after` meets its contract: what is known at each return gives the case. Assumes nothing.
+use Rattle.private_carried.specs.Carried.{countersAfter}
+use borrow.Author.Needs.{needs}
+use Rattle.private_carried.proofs.settled.counters_after.Statement.{statement}
+use Rattle.private_carried.proofs.settled.counters_after.Tie as tie
+
+pub counters-after-spec : {M : Type 1} → statement M
+unfolding countersAfter
+counters-after-spec =
+    tie.close
+    (tie.spec
+    (λ c κs. search needs)
+    (λ c κs. search needs)
+    (λ c κs. search needs)
+    (λ c. rw (c .counter-after3 .ensures, c .before .counter-after2 .ensures, c .before .before .counter-after .ensures)))

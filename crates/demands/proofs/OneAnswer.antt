@@ -21,6 +21,7 @@ use Rattle.private_carried.proofs.carry_out.Reads as carry-out
 use Rattle.private_call.proofs.step.Reads as step
 use Rattle.group_order.proofs.rank.Reads as rank
 use Rattle.group_order.proofs.better.Reads as better
+use Rattle.chooser.proofs.choice.Reads as choice
 use Rattle.chooser.proofs.choose_number.Reads as choose-number
 use Rattle.chooser.proofs.choose.Reads as choose
 use Rattle.chooser.specs.Choice.{place}
@@ -28,6 +29,12 @@ use Rattle.group_record.proofs.well_formed.Reads as group-well-formed
 use Rattle.group_record.proofs.states.cleared_record.Reads as group-cleared-record
 use Rattle.group_rows.proofs.row_of.Reads as group-row-of
 use Rattle.group_call.proofs.step.Reads as group-step
+use Rattle.panel.proofs.panel_line_check.Reads as panel-line-check
+use Rattle.panel.proofs.panel_choose.Reads as panel-choose
+use Rattle.panel.proofs.panel_choose_number.Reads as panel-choose-number
+use Rattle.trial.proofs.trial_value.Reads as trial-value
+use Rattle.trial.proofs.trial_write_line.Reads as trial-write-line
+use Rattle.trial.proofs.trial_answer_log.Reads as trial-answer-log
 use Rattle.demands.specs.OneAnswer.{OneAnswer}
 
 -- what equals the same thing is equal
@@ -120,6 +127,10 @@ rank-one κs = result-alone (λ a. tt) (λ a r q s t x y. same x y)
 pub better-one : (κs : Lifetimes.Lfts 0) → OneAnswer (better.Asked κs) (better.Learnt κs) (λ r. r) (λ t. tt {0})
 better-one κs = result-alone (λ a. tt) (λ a r q s t x y. same x y)
 
+-- which of two lines is chosen
+pub choice-one : (κs : Lifetimes.Lfts 2) → OneAnswer (choice.Asked κs) (choice.Learnt κs) (λ r. r) (λ t. tt {0})
+choice-one κs = result-alone (λ a. tt) (λ a r q s t x y. same x y)
+
 -- the number of the chooser's question
 pub choose-number-one : (κs : Lifetimes.Lfts 2) → OneAnswer (choose-number.Asked κs) (choose-number.Learnt κs) (λ r. r) (λ t. tt {0})
 choose-number-one κs = result-alone (λ a. tt) (λ a r q s t x y. same x y)
@@ -143,3 +154,27 @@ group-row-of-one κs = result-alone (λ a. tt) (λ a r q s t x y. same x y)
 -- the answer of a step of the group call machine, and the buffer
 pub group-step-one : (κs : Lifetimes.Lfts 1) → OneAnswer (group-step.Asked κs) (group-step.Learnt κs) (λ r. r) (λ t. t .1 .1 .1 .0 .now)
 group-step-one κs = record { asksNothing = λ a. tt; oneResult = λ a r q s t x y. same (x .0) (y .0); oneExit = λ a r q s t x y. same (x .1) (y .1) }
+
+-- the number of a line, for C
+pub panel-line-check-one : (κs : Lifetimes.Lfts 1) → OneAnswer (panel-line-check.Asked κs) (panel-line-check.Learnt κs) (λ r. r) (λ t. tt {0})
+panel-line-check-one κs = result-alone (λ a. tt) (λ a r q s t x y. same x y)
+
+-- which of two lines is chosen, for C
+pub panel-choose-one : (κs : Lifetimes.Lfts 2) → OneAnswer (panel-choose.Asked κs) (panel-choose.Learnt κs) (λ r. r) (λ t. tt {0})
+panel-choose-one κs = result-alone (λ a. tt) (λ a r q s t x y. same x y)
+
+-- the number of the chooser's question, for C
+pub panel-choose-number-one : (κs : Lifetimes.Lfts 2) → OneAnswer (panel-choose-number.Asked κs) (panel-choose-number.Learnt κs) (λ r. r) (λ t. tt {0})
+panel-choose-number-one κs = result-alone (λ a. tt) (λ a r q s t x y. same x y)
+
+-- a value of what a line reads as, for C
+pub trial-value-one : (κs : Lifetimes.Lfts 1) → OneAnswer (trial-value.Asked κs) (trial-value.Learnt κs) (λ r. r) (λ t. tt {0})
+trial-value-one κs = result-alone (λ a. tt) (λ a r q s t x y. same x y)
+
+-- the number of values that are written as a line, and the buffer, for C
+pub trial-write-line-one : (κs : Lifetimes.Lfts 2) → OneAnswer (trial-write-line.Asked κs) (trial-write-line.Learnt κs) (λ r. r) (λ t. t .1 .0 .now)
+trial-write-line-one κs = record { asksNothing = λ a. tt; oneResult = λ a r q s t x y. same (x .0) (y .0); oneExit = λ a r q s t x y. same (x .1) (y .1) }
+
+-- the length of a log's answer, and the buffer, for C
+pub trial-answer-log-one : (κs : Lifetimes.Lfts 2) → OneAnswer (trial-answer-log.Asked κs) (trial-answer-log.Learnt κs) (λ r. r) (λ t. t .1 .0 .now)
+trial-answer-log-one κs = record { asksNothing = λ a. tt; oneResult = λ a r q s t x y. same (x .0) (y .0); oneExit = λ a r q s t x y. same (x .1) (y .1) }

@@ -1,0 +1,27 @@
+#!/usr/bin/env bash
+# host/panel.sh: builds what a panel shell in C needs, and one that is ready to run, into target/panel: panel.h, libpanel.a (proved before
+# it is built) and panel-shell. To compile, it takes the command in CC, or cc, with the words of CFLAGS behind its own. Says the three on
+# standard output.
+set -u
+root=$(cd "$(dirname "${BASH_SOURCE[0]}")/.." && pwd -P) || exit 2
+cd "$root" || exit 2
+into=target/panel
+
+# Says one line on standard error and gives up.
+fail() {
+    echo "panel: $*" >&2
+    exit 2
+}
+
+[ $# -eq 0 ] || fail "usage: host/panel.sh"
+command -v rt >/dev/null || fail "rt, the command of the Rattle kit, is not on the PATH"
+[ "$(uname -m)" = x86_64 ] || fail "the archive is for x86-64, and this machine is $(uname -m)"
+[ -e target/staticlib/libpanel.a ] || echo "panel: proving and building it first: a minute or two, once" >&2
+rt staticlib panel >/dev/null 2>&1 || fail "not proved or not built: rt staticlib panel says why"
+
+mkdir -p $into && cp host/include/panel.h target/staticlib/libpanel.a $into || fail "$into cannot be written"
+# CC and CFLAGS are lists of words
+# shellcheck disable=SC2086
+${CC:-cc} -std=c99 -O2 -Wall -Wextra -Wpedantic -Wconversion ${CFLAGS-} -I $into -I host/shell -o $into/panel-shell \
+    host/shell/panel_shell.c host/shell/lent.c $into/libpanel.a || fail "the shell was not compiled"
+ls $into/panel.h $into/libpanel.a $into/panel-shell

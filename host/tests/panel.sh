@@ -1,0 +1,151 @@
+#!/usr/bin/env bash
+# The C entries: the header, the archive, the panel shell and a program of a newcomer's, built and run, also under a memory checker.
+set -u
+cd "$(dirname "${BASH_SOURCE[0]}")/../.." || exit 2
+. host/verdict.sh
+room=$(mktemp -d) || exit 2
+trap 'rm -rf "$room"' EXIT
+
+header=host/include/panel.h
+shell=target/panel/panel-shell
+warnings='-Wall -Wextra -Wpedantic -Wconversion -Werror'
+sanitized='-g -fsanitize=address,undefined -fno-sanitize-recover=all'
+# what valgrind ends with where it finds something, which nothing here ends with of itself
+found=99
+
+# One case: a run that ended with the status of the second word, and not with another than the third (0), wrote exactly the file of the
+# fourth word to $room/wrote, and said on standard error just the fifth word.
+judge() {
+    local wrong=''
+    [ "$2" -eq "$3" ] || wrong="status $2"
+    cmp -s "$room/wrote" "$4" || wrong="$wrong $(diff "$room/wrote" "$4" | head -n 3 | tr '\n' ' ')"
+    [ "$(cat "$room/said")" = "${5-}" ] || wrong="$wrong said: $(head -n 1 "$room/said")"
+    verdict "$1" "$wrong"
+}
+
+# ---- header, archive, shell
+
+CFLAGS='-Werror' bash host/panel.sh >"$room/wrote" 2>"$room/said"
+printf '%s\n' target/panel/libpanel.a target/panel/panel-shell target/panel/panel.h >"$room/wanted"
+judge "one command builds header, archive and shell, without a warning" $? 0 "$room/wanted"
+
+# shellcheck disable=SC2086
+wrong=$(echo '#include "panel.h"' | gcc -x c -std=c99 $warnings -Wmissing-prototypes -fsyntax-only -I target/panel - 2>&1 | head -n 1)
+verdict "the header alone is good C99, without a warning" "$wrong"
+
+# shellcheck disable=SC2086
+wrong=$(echo '#include "panel.h"' | g++ -x c++ $warnings -fsyntax-only -I target/panel - 2>&1 | head -n 1)
+verdict "the header alone is good C++, without a warning" "$wrong"
+
+# The declarations in C of the entries that the crate exports.
+declared() {
+    sed -n 's/^pub extern "C" fn \(.*\)(\(.*\)) -> u32$/uint32_t \1(\2);/p' crates/panel/src/lib.rt |
+        sed 's/\([a-z_]*\): &\[u8\]/const uint8_t *\1, size_t \1_len/g'
+}
+declared | sort >"$room/wanted"
+grep '^uint32_t ' $header | sort >"$room/wrote"
+: >"$room/said"
+judge "the header declares the entries of the crate, as they are" 0 0 "$room/wanted"
+
+nm target/panel/libpanel.a | sed -n 's/^[0-9a-f]* *\([A-Z]\) \(.*\)/\1 \2/p' | sort >"$room/wrote"
+sed -n 's/^pub extern "C" fn \([a-z_]*\).*/T \1/p' crates/panel/src/lib.rt | sort >"$room/wanted"
+judge "the archive has those entries and needs nothing else" 0 0 "$room/wanted"
+
+# ---- the entries
+
+# Compiles the entries' cases to the second word, with the words behind it.
+compile_entries() {
+    local to=$1
+    shift
+    # shellcheck disable=SC2086
+    gcc -std=c99 $warnings "$@" -I target/panel -o "$to" host/tests/panel_entries.c target/panel/libpanel.a
+}
+
+compile_entries "$room/entries" -g && "$room/entries"
+verdict "every case of the entries passes" "$([ $? -eq 0 ] || echo "it ended with a failure")"
+
+"$room/entries" >"$room/wanted"
+valgrind -q --leak-check=full --error-exitcode=$found "$room/entries" >"$room/wrote" 2>"$room/said"
+judge "the entries read no byte beside a line: valgrind finds nothing" $? 0 "$room/wanted"
+
+# shellcheck disable=SC2086
+compile_entries "$room/sanitized" $sanitized && "$room/sanitized" >"$room/wrote" 2>"$room/said"
+judge "the entries under the address sanitizer" $? 0 "$room/wanted"
+
+# ---- the shell
+
+sample=samples/announcements.log
+shown=samples/announcements.shown
+
+$shell $sample >"$room/wrote" 2>"$room/said"
+judge "the shell shows what each announcement is and which call wins" $? 0 $shown
+
+$shell - <$sample >"$room/wrote" 2>"$room/said"
+judge "the shell takes standard input as it takes a file" $? 0 $shown
+
+valgrind -q --leak-check=full --error-exitcode=$found $shell $sample >"$room/wrote" 2>"$room/said"
+judge "the shell under valgrind" $? 0 $shown
+
+# shellcheck disable=SC2086
+gcc -std=c99 $warnings $sanitized -I target/panel -I host/shell -o "$room/shell" host/shell/*.c target/panel/libpanel.a &&
+    "$room/shell" $sample >"$room/wrote" 2>"$room/said"
+judge "the shell under the address sanitizer" $? 0 $shown
+
+# What the shell says of each line, in the words of the program lines: `!` and a number, or the line itself, which it does not show.
+verdicts() { sed -n 's/^[0-9]*: refused (\([0-9]*\)).*/!\1/p; s/^[0-9]*: \(readable\|announcement\).*/good/p' "$1"; }
+"$room/shell" crates/lines/stdin >"$room/shown" 2>"$room/said"
+ended=$?
+verdicts "$room/shown" >"$room/wrote"
+sed 's/^[^!].*/good/' crates/lines/stdout >"$room/wanted"
+judge "the shell refuses what the program lines refuses, by the same number" $ended 0 "$room/wanted"
+
+echo 'no call' >"$room/wanted"
+$shell </dev/null >"$room/wrote" 2>"$room/said"
+judge "no input is no call" $? 0 "$room/wanted"
+
+# ---- the ends of what the shell reads
+
+yes 0212340000000700000009 | head -c 65536 >"$room/full"
+"$room/shell" "$room/full" >"$room/wanted" 2>/dev/null
+$shell "$room/full" >"$room/wrote" 2>"$room/said"
+judge "65,536 bytes are heard, and nothing is said of more" $? 0 "$room/wanted"
+
+{ cat "$room/full" && printf x; } >"$room/long"
+$shell "$room/long" >"$room/wrote" 2>"$room/said"
+judge "a byte more is named and not heard" $? 0 "$room/wanted" "panel-shell: $room/long: only its first 65536 bytes are heard"
+
+: >"$room/wanted"
+: >"$room/wrote"
+$shell $sample >/dev/full 2>"$room/said"
+judge "an answer that cannot be written is named" $? 1 "$room/wanted" "panel-shell: the answer could not be written"
+
+$shell "$room/none" >"$room/wrote" 2>"$room/said"
+judge "a log that is not there is named" $? 2 "$room/wanted" "panel-shell: $room/none: cannot be opened"
+
+$shell "$room" >"$room/wrote" 2>"$room/said"
+judge "a folder is no log" $? 2 "$room/wanted" "panel-shell: $room: cannot be read"
+
+$shell $sample $sample >"$room/wrote" 2>"$room/said"
+judge "two logs are one too many" $? 2 "$room/wanted" "panel-shell: usage: panel-shell [LOG]"
+
+# A guard that is changed is told: the shell with one byte of it changed ahead of the first line.
+sed 's|held = hear(held, next);|& heard.behind[0] = 0U;|' host/shell/panel_shell.c >"$room/spoilt.c"
+gcc -std=c99 -I target/panel -I host/shell -o "$room/spoilt" "$room/spoilt.c" host/shell/lent.c target/panel/libpanel.a &&
+    "$room/spoilt" $sample >"$room/shown" 2>"$room/said"
+ended=$?
+head -n 1 "$room/shown" >"$room/wrote"
+head -n 1 $shown >"$room/wanted"
+judge "a byte changed beside the log is told" $ended 3 "$room/wanted" "panel-shell: memory beside the log was changed at line 1"
+
+# ---- a newcomer's program
+
+sed -n '/^```c$/,/^```$/p' README.md | sed '1d;$d' >"$room/mine.c"
+# shellcheck disable=SC2086
+gcc -std=c99 $warnings -I target/panel -o "$room/mine" "$room/mine.c" target/panel/libpanel.a 2>"$room/said" &&
+    "$room/mine" >"$room/wrote" 2>>"$room/said"
+ended=$?
+sed -n '/^\/\* prints: .* \*\/$/s|^/\* prints: \(.*\) \*/$|\1|p' "$room/mine.c" >"$room/wanted"
+[ -s "$room/wanted" ] || echo "the program of README.md says what it prints" >"$room/wanted"
+judge "the program in README.md compiles, links and prints what it says" $ended 0 "$room/wanted"
+
+exit $status

@@ -13,8 +13,8 @@ sanitized='-g -fsanitize=address,undefined -fno-sanitize-recover=all'
 # what valgrind ends with where it finds something, which nothing here ends with of itself
 found=99
 
-# One case: a run that ended with the status of the second word, and not with another than the third (0), wrote exactly the file of the
-# fourth word to $room/wrote, and said on standard error just the fifth word.
+# One case: a run that ended with the status of the second word was to end with the third, to write just what the file of the fourth word
+# has, which is held against $room/wrote, and to say just the fifth word on standard error, held against $room/said.
 judge() {
     local wrong=''
     [ "$2" -eq "$3" ] || wrong="status $2"
@@ -62,11 +62,19 @@ compile_entries() {
 }
 
 compile_entries "$room/entries" -g && "$room/entries"
-verdict "every case of the entries passes" "$([ $? -eq 0 ] || echo "it ended with a failure")"
+ended=$?
+verdict "the cases of the entries end with a pass" "$([ $ended -eq 0 ] || echo "status $ended")"
 
 "$room/entries" >"$room/wanted"
 valgrind -q --leak-check=full --error-exitcode=$found "$room/entries" >"$room/wrote" 2>"$room/said"
 judge "the entries read no byte beside a line: valgrind finds nothing" $? 0 "$room/wanted"
+
+# The same cases with a length that is one too large, which valgrind must find.
+sed 's|answers = ask(one, first.length,|answers = ask(one, first.length + 1U,|' host/tests/panel_entries.c >"$room/too_long.c"
+gcc -std=c99 -g -I target/panel -o "$room/too_long" "$room/too_long.c" target/panel/libpanel.a
+valgrind -q --error-exitcode=$found "$room/too_long" >/dev/null 2>&1
+ended=$?
+verdict "valgrind would find a byte read too many" "$([ $ended -eq $found ] || echo "status $ended")"
 
 # shellcheck disable=SC2086
 compile_entries "$room/sanitized" $sanitized && "$room/sanitized" >"$room/wrote" 2>"$room/said"

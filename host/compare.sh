@@ -1,0 +1,27 @@
+#!/usr/bin/env bash
+# host/compare.sh [WORDS...]: gives random inputs to the proved implementation and to the independent one of host/independent, and looks
+# for a difference; --help says what the words may be. Before that it builds quietly, where anything has changed: the archives of the
+# proved implementation for C, which proves it, and the program that links them.
+set -u
+root=$(cd "$(dirname "${BASH_SOURCE[0]}")/.." && pwd -P) || exit 2
+
+# Says one line on standard error and gives up.
+fail() {
+    echo "compare: $*" >&2
+    exit 2
+}
+
+[ "$(uname -m)" = x86_64 ] || fail "the archives are for x86-64, and this machine is not"
+rt=$(command -v rt) || fail "rt, the command of the Rattle kit, is not on the PATH"
+cargo=$(command -v cargo) || fail "cargo, the command of the Rust toolchain, is not on the PATH"
+
+export STATICLIB=$root/target/staticlib
+for name in panel trial; do
+    (cd "$root" && "$rt" staticlib "$name") </dev/null >/dev/null 2>&1 || fail "no archive of $name: rt staticlib $name says why"
+    [ -f "$STATICLIB/lib$name.a" ] || fail "rt staticlib $name left no archive in target/staticlib"
+done
+
+(cd "$root" && "$cargo" build --release --offline --quiet --manifest-path host/independent/Cargo.toml --target-dir target/independent) \
+    </dev/null >/dev/null 2>&1 || fail "the program was not built: cargo build --manifest-path host/independent/Cargo.toml says why"
+
+exec "$root/target/independent/release/compare" "$@"

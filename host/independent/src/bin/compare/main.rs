@@ -1,0 +1,112 @@
+//! Holds the proved implementation, which comes as two C archives, against the
+//! independent one of this package, on random inputs.
+
+#![deny(unsafe_code)]
+
+mod case;
+mod lent;
+mod lines;
+mod logs;
+mod options;
+mod pairs;
+mod parts;
+mod proved;
+mod tally;
+mod words;
+mod writings;
+
+use independent::random::Random;
+use independent::{log, making};
+use options::{Options, Task};
+use parts::PARTS;
+use std::env;
+use std::io::{self, Read, Write};
+use std::process::ExitCode;
+
+/// Does what the words ask for, and says in one line why it could not.
+fn main() -> ExitCode {
+    let words: Vec<String> = env::args_os()
+        .skip(1)
+        .map(|word| word.to_string_lossy().into_owned())
+        .collect();
+    let done = match options::parse(&words) {
+        Ok(task) => done(&task).map_err(|error| error.to_string()),
+        Err(wrong) => Err(wrong),
+    };
+    match done {
+        Ok(good) => ExitCode::from(u8::from(!good)),
+        Err(wrong) => {
+            // Where not even this can be said, the status still tells.
+            let _ = writeln!(io::stderr(), "compare: {wrong}");
+            ExitCode::from(2)
+        }
+    }
+}
+
+/// Does a task, and tells whether all was as it should be.
+fn done(task: &Task) -> io::Result<bool> {
+    match task {
+        Task::Compare(options) => return compare(options),
+        Task::Answer => {
+            let mut input = Vec::new();
+            let read = io::stdin().lock().read_to_end(&mut input);
+            read.map_err(|error| named("standard input could not be read", error))?;
+            put(&log::answer_cut(&input))?;
+        }
+        Task::Log(seed) => put(&making::log(&mut Random::new(*seed)))?,
+        Task::Help => put(options::HELP.as_bytes())?,
+    }
+    Ok(true)
+}
+
+/// Runs all parts up to the first difference, and tells whether there was none and all was tried.
+fn compare(options: &Options) -> io::Result<bool> {
+    say(&format!("seed {}", options.seed))?;
+    let mut all_tried = true;
+    for (part, &count) in PARTS.iter().zip(&options.counts) {
+        let tally = match part.run(options.seed, count, options.spoil) {
+            Ok(tally) => tally,
+            Err(difference) => {
+                say(&difference)?;
+                return Ok(false);
+            }
+        };
+        say(&tally.table(part.name, part.measured))?;
+        let missing = tally.missing();
+        if count >= part.enough && !missing.is_empty() {
+            say(&format!(
+                "FAILED {}: not met: {}",
+                part.name,
+                missing.join(", ")
+            ))?;
+            all_tried = false;
+        }
+    }
+    let [lines, pairs, writings, logs] = options.counts;
+    let counts = format!("{lines} lines, {pairs} pairs, {writings} writings, {logs} logs");
+    if all_tried {
+        say(&format!("no difference: {counts}"))?;
+    } else {
+        say(&format!(
+            "FAILED: no difference, but not all was tried: {counts}"
+        ))?;
+    }
+    Ok(all_tried)
+}
+
+/// Writes a text and a line end to standard output, at once.
+fn say(text: &str) -> io::Result<()> {
+    put(format!("{text}\n").as_bytes())
+}
+
+/// Writes bytes to standard output, at once.
+fn put(bytes: &[u8]) -> io::Result<()> {
+    let mut out = io::stdout().lock();
+    let written = out.write_all(bytes).and_then(|()| out.flush());
+    written.map_err(|error| named("standard output could not be written", error))
+}
+
+/// Puts in front of an error what could not be done.
+fn named(what: &str, error: io::Error) -> io::Error {
+    io::Error::other(format!("{what}: {error}"))
+}

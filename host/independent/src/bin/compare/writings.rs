@@ -1,0 +1,131 @@
+//! The part `writings`: values written as a line into a buffer.
+
+use crate::case::{named, Case, Difference, Draw, Spoil};
+use crate::lent::Lent;
+use crate::proved;
+use crate::tally::{Row, Tally};
+use crate::words;
+use independent::kind::Kind;
+use independent::line::{write, NO_KIND};
+use independent::making;
+use independent::message::{Message, MOST_FIELDS};
+use independent::random::Random;
+
+/// The rows of the part's table.
+pub const ROWS: &[Row] = &[
+    ("number", &["0", "3", "5", "6"]),
+    ("written", &["1", "2", "3", "4", "5", "6", "7", "8", "9"]),
+    (
+        "values",
+        &["whole", "cut short", "no kind", "empty", "null"],
+    ),
+    (
+        "buffer",
+        &[
+            "empty", "shorter", "one less", "exact", "one more", "longer",
+        ],
+    ),
+];
+
+/// The longest buffer lent, but for one that is a byte longer than its line.
+const LONGEST: u64 = 80;
+
+/// Makes values and a buffer, and compares what the two implementations write into it.
+pub fn one(draw: &mut Draw, tally: &mut Tally) -> Result<(), Difference> {
+    let message = making::message_perhaps_outside(&mut draw.random);
+    let (values, sort) = values_of(&mut draw.random, &message);
+    let line = 2 * message.kind().total() + 1;
+    let length = length(&mut draw.random, line);
+    let before = draw.bytes(length);
+    let mut lent = Lent::values(&mut draw.random, &values);
+    let mut buffer = Lent::buffer(&before);
+    tally.input(length);
+    tally.meet("values", sort.unwrap_or(lent.sort()));
+    tally.meet("buffer", room(length, line));
+    let name = lent.named("the values");
+    let case = Case {
+        part: "writings",
+        input: &|| {
+            let values = format!("{name}: {}", words::values(&values));
+            [values, named("the buffer before", &before)].join("\n")
+        },
+    };
+    let independent = independent(&values, &before, draw.spoilt(Spoil::Writings));
+    tally.meet_number("number", independent.0);
+    if independent.0 == 0 {
+        tally.meet_number("written", values[0]);
+    }
+    let number = proved::write_line(&mut lent, &mut buffer);
+    case.unharmed(&lent, "the values")?;
+    case.unharmed_around(&buffer, "the buffer")?;
+    let proved = (number, buffer.inside().to_vec());
+    case.same_written(&proved, &independent, |&number| words::number(number))
+}
+
+/// Lays a message out as values, now and then without a kind or without some of the last, and says so.
+fn values_of(random: &mut Random, message: &Message) -> (Vec<u32>, Option<&'static str>) {
+    let fields = message.kind().fields().len();
+    let mut values = vec![message.kind().code()];
+    values.extend_from_slice(&message.values()[..fields]);
+    let sort = match random.below(40) {
+        0 => {
+            values[0] = *random.pick(&[0, 10, 255]);
+            Some("no kind")
+        }
+        1 => {
+            values.clear();
+            None
+        }
+        2..=4 => {
+            values.truncate(1 + random.below(fields as u64) as usize);
+            Some("cut short")
+        }
+        _ => Some("whole"),
+    };
+    (values, sort)
+}
+
+/// Draws a buffer's length, often just that of the line or one byte beside it.
+fn length(random: &mut Random, line: usize) -> usize {
+    match random.below(16) {
+        0..=3 => line,
+        4..=7 => line - 1,
+        8..=11 => line + 1,
+        12 => 0,
+        _ => random.below(LONGEST + 1) as usize,
+    }
+}
+
+/// Names the room that a buffer has for a line.
+fn room(length: usize, line: usize) -> &'static str {
+    match length {
+        0 => "empty",
+        _ if length + 1 == line => "one less",
+        _ if length == line => "exact",
+        _ if length == line + 1 => "one more",
+        _ if length < line => "shorter",
+        _ => "longer",
+    }
+}
+
+/// Gives the independent number and the buffer afterwards; a slip clears the buffer behind the line.
+fn independent(values: &[u32], before: &[u8], slip: bool) -> (u32, Vec<u8>) {
+    let mut buffer = before.to_vec();
+    let kind = values.first().and_then(|&code| Kind::of_code(code));
+    let Some(kind) = kind else {
+        return (NO_KIND, buffer);
+    };
+    let mut fields = [0; MOST_FIELDS];
+    for (field, &value) in fields.iter_mut().zip(&values[1..]) {
+        *field = value;
+    }
+    match write(&Message::from_values(kind, &fields), &mut buffer) {
+        Ok(length) => {
+            if slip {
+                buffer[length..].fill(0);
+            }
+            (0, buffer)
+        }
+        Err(number) => (number, buffer),
+    }
+}

@@ -8,8 +8,12 @@ use Rattle.frame.specs.Range.{within}
 use Rattle.frame.specs.Media.{noMedia}
 use Rattle.frame.specs.Frame.{kindOf, carries}
 use Rattle.frame.specs.Layout.{front, back, frontOf, backOf}
-use Rattle.frame.specs.Line.{messageOf, readLine}
+use Rattle.frame.specs.Line.{partiesOf, setupOf, groupCallOf, acceptanceOf, messageOf, readLine}
 use Rattle.frame.specs.declared.Media.{Media}
+use Rattle.frame.specs.declared.Parties.{Parties}
+use Rattle.frame.specs.declared.Setup.{Setup}
+use Rattle.frame.specs.declared.GroupCall.{GroupCall}
+use Rattle.frame.specs.declared.Acceptance.{Acceptance}
 use Rattle.frame.specs.declared.Message.{Message}
 use Rattle.frame.specs.declared.Read.{Read}
 use Rattle.frame.specs.declared.Read.the-variants.{Readable, Refused}
@@ -58,6 +62,22 @@ mediaIndex kind = length (front kind)
 -- the place where the back begins
 abbrev pub backIndex : ℕ → ℕ
 backIndex kind = mediaIndex kind + cond (carries kind) 1 0
+
+-- a private call with these values
+abbrev pub partiesIn : List ℕ → Parties
+partiesIn values = partiesOf (valuesAt (front 2) values 0)
+
+-- what a setup request with these values says besides
+abbrev pub setupIn : List ℕ → Setup
+setupIn values = setupOf (valuesAt (front 1) values 0) (valuesAt (back 1) values (backIndex 1))
+
+-- a group call with these values
+abbrev pub groupCallIn : List ℕ → GroupCall
+groupCallIn values = groupCallOf (valuesAt (front 8) values 0) (valuesAt (back 8) values (backIndex 8))
+
+-- an acceptance with these values
+abbrev pub acceptanceIn : List ℕ → Acceptance
+acceptanceIn values = acceptanceOf (valuesAt (front 9) values 0)
 
 -- the message of a kind with these values
 abbrev pub messageIn : ℕ → List ℕ → Message

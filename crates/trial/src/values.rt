@@ -4,10 +4,10 @@ ghost use Prim.Native.Nat.{_≤_};
 ghost use mathlib.Core.List.{[], _∷_};
 ghost use lib.ListN.{getD};
 ghost use Rattle.frame.specs.Digits.{one, two};
-ghost use Rattle.frame.specs.Layout.{front, back, partiesThen, acceptanceThen};
-ghost use Rattle.frame.specs.Line.{partiesOf, setupOf, groupCallOf, acceptanceOf};
+ghost use Rattle.frame.specs.Layout.{partiesThen, acceptanceThen};
 ghost use Rattle.frame.specs.declared.Message.the-variants.{SetupRequest, Announcement};
-ghost use Rattle.trial.specs.Values.{cut, frameValues, valuesAt, messageIn, mediaIn};
+ghost use Rattle.trial.specs.Values.{frameValues, cut, partiesIn, setupIn, groupCallIn, acceptanceIn, messageIn};
+ghost use Rattle.trial.specs.Values.{mediaIn};
 use frame::Acceptance;
 use frame::GroupCall;
 use frame::Media;
@@ -136,7 +136,7 @@ pub(crate) fn message_value(message: Message, media: Media, place: usize) -> u32
 
 // The private call with these values.
 fn parties_from(values: &[u32]) -> Parties
-    ensures { λ r. ⌜ r ≡ partiesOf (valuesAt (front 2) (now (values .entry)) 0) ⌝ }
+    ensures { λ r. ⌜ r ≡ partiesIn (now (values .entry)) ⌝ }
 {
     Parties {
         identifier: two_bytes_at(values, 1),
@@ -147,7 +147,7 @@ fn parties_from(values: &[u32]) -> Parties
 
 // What a setup request with these values says besides.
 fn setup_from(values: &[u32]) -> Setup
-    ensures { λ r. ⌜ r ≡ setupOf (valuesAt (front 1) (now (values .entry)) 0) (valuesAt (back 1) (now (values .entry)) 7) ⌝ }
+    ensures { λ r. ⌜ r ≡ setupIn (now (values .entry)) ⌝ }
 {
     Setup {
         commencement: byte_at(values, 4),
@@ -158,7 +158,7 @@ fn setup_from(values: &[u32]) -> Setup
 
 // The group call with these values.
 fn group_call_from(values: &[u32]) -> GroupCall
-    ensures { λ r. ⌜ r ≡ groupCallOf (valuesAt (front 8) (now (values .entry)) 0) (valuesAt (back 8) (now (values .entry)) 6) ⌝ }
+    ensures { λ r. ⌜ r ≡ groupCallIn (now (values .entry)) ⌝ }
 {
     GroupCall {
         identifier: two_bytes_at(values, 1),
@@ -174,7 +174,7 @@ fn group_call_from(values: &[u32]) -> GroupCall
 
 // The acceptance with these values.
 fn acceptance_from(values: &[u32]) -> Acceptance
-    ensures { λ r. ⌜ r ≡ acceptanceOf (valuesAt (front 9) (now (values .entry)) 0) ⌝ }
+    ensures { λ r. ⌜ r ≡ acceptanceIn (now (values .entry)) ⌝ }
 {
     Acceptance {
         identifier: two_bytes_at(values, 1),

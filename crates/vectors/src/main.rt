@@ -35,10 +35,10 @@ fn crew() -> Settings {
 }
 
 // An event with this media beside it, where the media can be set up and the signature is good.
-fn input(event: Event, media: u32) -> Input {
+fn input(event: Event, media: Media) -> Input {
     Input {
         event: event,
-        media: Media { number: media },
+        media: media,
         verdicts: Verdicts {
             media: true,
             signature: true,
@@ -46,15 +46,14 @@ fn input(event: Event, media: u32) -> Input {
     }
 }
 
-// Writes the line of this length that a step sent, and says on standard error where there is none.
-fn show(out: &[u8], length: usize) {
-    if length == 0 {
-        io::write_all(STDERR_FILENO, b"vectors: a step sent no line\n");
+// Writes the line at the front of the buffer, and says on standard error where the step told another length than its.
+fn show(out: &[u8], told: usize) {
+    let length = log::first_line_length(out);
+    if length != told {
+        io::write_all(STDERR_FILENO, b"vectors: a step did not send one line\n");
     }
-    if length <= out.len() {
-        if !io::write_all(STDOUT_FILENO, &out[..length]) {
-            io::write_all(STDERR_FILENO, b"vectors: a line could not be written\n");
-        }
+    if !io::write_all(STDOUT_FILENO, &out[..length]) {
+        io::write_all(STDERR_FILENO, b"vectors: a line could not be written\n");
     }
 }
 
@@ -76,24 +75,16 @@ fn starts() -> Input {
     };
     input(
         Event::Action(Action::Private(PrivateAction::Start(start))),
-        5,
+        Media { number: 5 },
     )
-}
-
-// User 7 hears the accept of user 9; a line that is not readable would be an end of the call by the user.
-fn hears_accept() -> Input {
-    let reading = frame::read_line(&ACCEPT);
-    let media = reading.media;
-    let read = reading.read;
-    match read {
-        Read::Readable(message) => input(Event::Message(message), media.number),
-        Read::Refused(_) => ends(),
-    }
 }
 
 // User 7 ends the call.
 fn ends() -> Input {
-    input(Event::Action(Action::Private(PrivateAction::End)), 0)
+    input(
+        Event::Action(Action::Private(PrivateAction::End)),
+        Media::NONE,
+    )
 }
 
 // User 7 starts the group call 16: emergency, refresh 30, media 5, at the time 1000, and asks the others to confirm.
@@ -105,14 +96,31 @@ fn starts_group_call() -> Input {
         confirm: 1,
         now: 1000,
     };
-    input(Event::Action(Action::Group(GroupAction::Start(start))), 5)
+    input(
+        Event::Action(Action::Group(GroupAction::Start(start))),
+        Media { number: 5 },
+    )
 }
 
-// The private call, from start to end, and the announcement of the group call.
-fn main() {
+// The private call: user 7 starts it, hears the accept of user 9, and ends it.
+fn play_private_call() {
     let called = private_step(private_record::states::cleared_record(), starts());
-    let accepted = private_step(called, hears_accept());
-    private_step(accepted, ends());
+    let reading = frame::read_line(&ACCEPT);
+    let media = reading.media;
+    let read = reading.read;
+    match read {
+        Read::Readable(message) => {
+            let accepted = private_step(called, input(Event::Message(message), media));
+            private_step(accepted, ends());
+        }
+        Read::Refused(_) => {
+            io::write_all(STDERR_FILENO, b"vectors: the accept was not read\n");
+        }
+    }
+}
+
+// The group call: user 7 announces it.
+fn play_group_call() {
     let mut out = [0u8; Message::LONGEST];
     let announced = group_call::step(
         crew(),
@@ -121,4 +129,10 @@ fn main() {
         &mut out,
     );
     show(&out, announced.length);
+}
+
+// The private call, then the group call.
+fn main() {
+    play_private_call();
+    play_group_call();
 }

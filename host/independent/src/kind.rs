@@ -1,4 +1,4 @@
-//! The paper's table of kinds as data: which fields a kind carries, how wide
+//! The rules' table of kinds as data: which fields a kind carries, how wide
 //! each one is on the line, and which values each one may have.
 
 /// One field of a frame, as reader, writer and range test all see it.
@@ -177,7 +177,7 @@ mod tests {
     use super::*;
     use crate::message::MOST_FIELDS;
 
-    /// The totals of the paper must be the sum of kind byte and fields.
+    /// The totals of the table must be the sum of kind byte and fields.
     #[test]
     fn totals_are_sums() {
         for kind in Kind::ALL {

@@ -1,4 +1,4 @@
-//! A second reading of the cab terminal's line rules, written from the paper
+//! A second reading of the cab terminal's line rules, written from the rules
 //! alone, so that another implementation can be compared with it.
 //!
 //! The crate reads and writes frames as lines, chooses between two announcement

@@ -151,7 +151,7 @@ impl Message {
         }
     }
 
-    /// Tells whether every field has a value that the paper allows.
+    /// Tells whether every field has a value that the rules allow.
     pub fn in_range(&self) -> bool {
         self.kind()
             .fields()
@@ -258,7 +258,7 @@ mod tests {
         }
     }
 
-    /// Each field alone, at the values named in the paper's ranges and just outside.
+    /// Each field alone, at the values named in the rules' ranges and just outside.
     #[test]
     fn each_field_at_its_edges() {
         let mut met = 0;

@@ -4,14 +4,14 @@
 use crate::kind::Kind;
 use crate::message::{Accept, Announcement, GroupAccept, Message, Reject, SetupRequest, Users};
 
-/// The two users and the identifier of the paper's RINGING line.
+/// The two users and the identifier of the marked RINGING line.
 const USERS: Users = Users {
     identifier: 0x1234,
     caller: 7,
     callee: 9,
 };
 
-/// The first line of the paper's run as a message.
+/// The first line of the run that is compared, as a message.
 pub const SETUP: SetupRequest = SetupRequest {
     identifier: 0x1234,
     caller: 7,
@@ -22,7 +22,7 @@ pub const SETUP: SetupRequest = SetupRequest {
     pck_id: 0,
 };
 
-/// The paper's announcement line as a message.
+/// The announcement that is compared, as a message.
 pub const ANNOUNCEMENT: Announcement = Announcement {
     identifier: 16,
     group: 3,

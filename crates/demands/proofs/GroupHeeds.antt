@@ -24,8 +24,8 @@ use Rattle.group_rows.specs.Found.{atOf, foundAt}
 use Rattle.group_rows.specs.declared.rows.Row.{Row}
 use Rattle.group_rows.specs.declared.rows.Row.the-variants.{G1, G7, G8}
 use Rattle.group_rows.proofs.Meets.{found-is-met}
-use Rattle.group_call.specs.Effects.{effectOf}
-use Rattle.group_call.specs.Carried.{changes, carryOut}
+use Rattle.group_carried.specs.Effects.{effectOf}
+use Rattle.group_carried.specs.Carried.{changes, carryOut}
 use Rattle.group_call.specs.Step.{changeTooEarly}
 use Rattle.demands.specs.Machines.{groupMachine}
 use Rattle.demands.specs.GroupPlayed.{doesInGroup}

@@ -17,7 +17,7 @@ use Rattle.group_record.specs.declared.states.GroupRecord.{GroupRecord}
 use Rattle.group_rows.specs.Rows.{rowNumber, rowOf}
 use Rattle.group_rows.specs.declared.rows.Row.the-variants.{G9}
 use Rattle.group_rows.proofs.Meets.{same-row}
-use Rattle.group_call.specs.Carried.{isLater, runningAfter}
+use Rattle.group_carried.specs.Carried.{isLater, runningAfter}
 use Rattle.group_call.specs.Step.{changeTooEarly, doneOf, stepNumber}
 use Rattle.group_call.specs.declared.Stepped.{Stepped}
 use Rattle.group_call.proofs.Keeping.{has-set, carried-sends-good}

@@ -35,7 +35,7 @@ use Rattle.chooser.specs.Choice.{choiceOf, choiceNumber}
 use Rattle.group_record.specs.Formed as GroupFormed
 use Rattle.group_record.specs.declared.states.GroupRecord.{GroupRecord}
 use Rattle.group_rows.specs.Rows as GroupRows
-use Rattle.group_call.specs.Carried as GroupCarried
+use Rattle.group_carried.specs.Carried as GroupCarried
 use Rattle.group_call.specs.Step as GroupStep
 use Rattle.group_call.specs.Hearing.{hears}
 use Rattle.group_call.specs.declared.Stepped as GroupStepped

@@ -28,6 +28,7 @@ use Rattle.chooser.specs.Choice.{place}
 use Rattle.group_record.proofs.well_formed.Reads as group-well-formed
 use Rattle.group_record.proofs.states.cleared_record.Reads as group-cleared-record
 use Rattle.group_rows.proofs.row_of.Reads as group-row-of
+use Rattle.group_carried.proofs.carry_out.Reads as group-carry-out
 use Rattle.group_call.proofs.step.Reads as group-step
 use Rattle.panel.proofs.panel_line_check.Reads as panel-line-check
 use Rattle.panel.proofs.panel_choose.Reads as panel-choose
@@ -150,6 +151,10 @@ group-cleared-record-one κs = result-alone (λ a. tt) (λ a r q s t x y. same x
 -- the group row that an event meets
 pub group-row-of-one : (κs : Lifetimes.Lfts 0) → OneAnswer (group-row-of.Asked κs) (group-row-of.Learnt κs) (λ r. r) (λ t. tt {0})
 group-row-of-one κs = result-alone (λ a. tt) (λ a r q s t x y. same x y)
+
+-- what carrying out a group row gives
+pub group-carry-out-one : (κs : Lifetimes.Lfts 0) → OneAnswer (group-carry-out.Asked κs) (group-carry-out.Learnt κs) (λ r. r) (λ t. tt {0})
+group-carry-out-one κs = result-alone (λ a. tt) (λ a r q s t x y. same x y)
 
 -- the answer of a step of the group call machine, and the buffer
 pub group-step-one : (κs : Lifetimes.Lfts 1) → OneAnswer (group-step.Asked κs) (group-step.Learnt κs) (λ r. r) (λ t. t .1 .1 .1 .0 .now)

@@ -26,7 +26,7 @@ use Rattle.group_record.specs.declared.states.Timers.{Timers}
 use Rattle.group_rows.specs.Causes.{announcementCause, causeOf}
 use Rattle.group_rows.specs.Rows.{sameCause}
 use Rattle.group_rows.specs.declared.causes.Cause.{Cause}
-use Rattle.group_call.specs.Carried.{ranOut}
+use Rattle.group_carried.specs.Carried.{ranOut}
 use Rattle.group_call.proofs.Holding.{ranged}
 
 -- ---- the timer that ran out

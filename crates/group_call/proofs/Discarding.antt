@@ -16,9 +16,9 @@ use Rattle.group_rows.specs.Causes.{causeOf, factsOf}
 use Rattle.group_rows.specs.Rows.{rowOf}
 use Rattle.group_rows.specs.declared.causes.Cause.{Cause}
 use Rattle.group_rows.specs.declared.rows.Row.the-variants.{Discard}
-use Rattle.group_call.specs.Carried.{ranOut, changes, stoppedOf, runningAfter, stoppedBy, runningBy, carryOut}
-use Rattle.group_call.specs.Effects.{effectOf}
-use Rattle.group_call.specs.declared.settled.Carried.{Carried}
+use Rattle.group_carried.specs.Carried.{ranOut, changes, stoppedOf, runningAfter, stoppedBy, runningBy, carryOut}
+use Rattle.group_carried.specs.Effects.{effectOf}
+use Rattle.group_carried.specs.declared.Carried.{Carried}
 use Rattle.group_call.proofs.Brought.{outOf, ran-out-of}
 use Rattle.group_call.proofs.Settling.{less, Sound, rows-sound}
 use Rattle.group_call.proofs.Keeping.{same-timers, Fit}

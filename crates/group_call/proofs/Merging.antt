@@ -24,7 +24,7 @@ use Rattle.group_rows.specs.declared.causes.Facts.{Facts}
 use Rattle.group_rows.specs.declared.rows.Row.{Row}
 use Rattle.group_rows.specs.declared.rows.Row.the-variants.{Discard, G10, G11}
 use Rattle.group_rows.proofs.Meets.{found-is-met}
-use Rattle.group_call.specs.Carried.{isLater, stoppedOf, runningAfter, laterChange, carryOut}
+use Rattle.group_carried.specs.Carried.{isLater, stoppedOf, runningAfter, laterChange, carryOut}
 use Rattle.group_call.specs.Step.{changeTooEarly, numberBeforeSending, discarded, stepOf, stepBuffer}
 use Rattle.group_call.specs.Hearing.{ongoing, hears}
 use Rattle.group_call.specs.declared.Stepped.{Stepped}

@@ -22,9 +22,9 @@ use Rattle.group_rows.specs.Rows.{rowNumber, rowOf}
 use Rattle.group_rows.specs.declared.rows.Row.{Row}
 use Rattle.group_rows.specs.declared.rows.Row.the-variants.{Discard}
 use Rattle.group_rows.proofs.Meets.{same-row}
-use Rattle.group_call.specs.Carried.{ranOut, runningAfter, carryOut}
+use Rattle.group_carried.specs.Carried.{ranOut, runningAfter, carryOut}
+use Rattle.group_carried.specs.declared.Carried.{Carried}
 use Rattle.group_call.specs.Step.{changeTooEarly, numberBeforeSending, doneOf, stepLine, stepNumber, refusedOf, movedOf, discarded, stepOf, stepBuffer}
-use Rattle.group_call.specs.declared.settled.Carried.{Carried}
 use Rattle.group_call.specs.declared.Stepped.{Stepped}
 use Rattle.group_call.proofs.Keeping.{fit, carried-well-formed, carried-sends-good}
 use Rattle.group_call.proofs.Discarding.{carried-nothing}

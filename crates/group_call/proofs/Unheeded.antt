@@ -26,7 +26,7 @@ use Rattle.group_rows.specs.declared.causes.Facts.{Facts}
 use Rattle.group_rows.specs.declared.rows.Row.{Row}
 use Rattle.group_rows.specs.declared.rows.Row.the-variants.{Discard}
 use Rattle.group_rows.proofs.Meets.{found-is-met}
-use Rattle.group_call.specs.Carried.{isLater, carryOut}
+use Rattle.group_carried.specs.Carried.{isLater, carryOut}
 use Rattle.group_call.specs.Hearing.{inputOf, expiry}
 use Rattle.group_call.specs.Step.{changeTooEarly, discarded, stepOf, stepBuffer}
 use Rattle.group_call.proofs.Keeping.{fit}

@@ -1,4 +1,2 @@
-pub mod Effects
-pub mod Carried
 pub mod Step
 pub mod Hearing

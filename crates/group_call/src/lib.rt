@@ -1,17 +1,13 @@
 // The group call machine: one step.
-mod effects;
-mod settled;
-
 ghost use mathlib.Core.Path.{_≡_};
 ghost use Rattle.group_rows.specs.Rows.{rowNumber};
 ghost use Rattle.group_call.specs.Step.{changeTooEarly, refusedOf, movedOf, stepOf, stepBuffer};
-use crate::settled::Carried;
-use crate::settled::carry_out;
-use crate::settled::later;
 use call::Event;
 use call::Input;
 use call::Settings;
 use call::announced_of;
+use group_carried::Carried;
+use group_carried::carry_out;
 use group_record::states::GroupRecord;
 use group_record::states::Timers;
 use group_record::well_formed;
@@ -73,7 +69,7 @@ fn change_too_early(settings: Settings, stored: GroupRecord, event: Event, row: 
     let held = stored.call;
     let announced = announced_of(settings, event);
     let brought = announced.call;
-    (row_number(row) == 9) & !later(brought, held)
+    (row_number(row) == 9) & !(held.last_change < brought.last_change)
 }
 
 // A step that was carried out, with the length of its line.

@@ -8,8 +8,8 @@ use Rattle.stepping.specs.Sending.{sendTold, sendBuffer}
 use Rattle.group_record.specs.Formed.{wellFormed}
 use Rattle.group_rows.specs.Rows.{rowOf}
 use Rattle.group_rows.specs.declared.rows.Row.{Row}
-use Rattle.group_call.specs.Carried.{carryOut}
-use Rattle.group_call.specs.declared.settled.Carried.{Carried}
+use Rattle.group_carried.specs.Carried.{carryOut}
+use Rattle.group_carried.specs.declared.Carried.{Carried}
 use Rattle.group_call.specs.Step.{changeTooEarly, doneOf, refusedOf, movedOf}
 use Rattle.group_call.proofs.Answers.{refused-first, refused-by-row, refused-sending, carried-out}
 use borrow.Author.Needs.{needs}

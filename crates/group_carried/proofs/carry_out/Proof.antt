@@ -1,0 +1,21 @@
+-- `group_carried::carry_out` meets its contract: what is known at each return gives the case. Assumes nothing.
+use Rattle.group_carried.specs.Carried.{carryOut}
+use borrow.Author.Needs.{needs}
+use Rattle.group_carried.proofs.carry_out.Statement.{statement}
+use Rattle.group_carried.proofs.carry_out.Tie as tie
+
+pub carry-out-spec : {M : Type 1} → statement M
+unfolding carryOut
+carry-out-spec =
+    tie.close
+    (tie.spec
+    (λ c κs. search needs)
+    (λ c κs. search needs)
+    (λ c κs. search needs)
+    (λ c κs. search needs)
+    (λ c κs. search needs)
+    (λ c κs. search needs)
+    (λ c κs. search needs)
+    (λ c κs. search needs)
+    (λ c κs. search needs)
+    (λ c. rw (c .sent .ensures, c .before .media-held .ensures, c .before .before .running-after .ensures, c .before .before .before .held .ensures, c .before .before .before .before .stopped .ensures, c .before .before .before .before .before .state-changes .ensures, c .before .before .before .before .before .before .ran-out .ensures, c .before .before .before .before .before .before .before .before .before .effect-of .ensures, c .before .before .before .before .before .before .before .before .before .before .before .announced-of .ensures)))

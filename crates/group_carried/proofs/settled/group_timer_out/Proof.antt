@@ -1,0 +1,15 @@
+-- `group_carried::settled::group_timer_out` meets its contract: what is known at each return gives the case. Assumes nothing.
+use borrow.Author.Needs.{needs}
+use Rattle.group_carried.proofs.settled.group_timer_out.Statement.{statement}
+use Rattle.group_carried.proofs.settled.group_timer_out.Tie as tie
+
+pub group-timer-out-spec : {M : Type 1} → statement M
+group-timer-out-spec =
+    tie.close
+    (tie.spec
+    (λ c. search needs)
+    (λ c. search needs)
+    (λ c. search needs)
+    (λ c. rw (c .enum-told .given .1))
+    (λ c. rw (c .enum-told2 .given .1))
+    (λ c. rw (c .enum-told3 .given .1)))

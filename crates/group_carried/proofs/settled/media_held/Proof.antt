@@ -1,0 +1,19 @@
+-- `group_carried::settled::media_held` meets its contract: what is known at each return gives the case. Assumes nothing.
+use borrow.Author.Needs.{needs}
+use Rattle.group_carried.proofs.settled.media_held.Statement.{statement}
+use Rattle.group_carried.proofs.settled.media_held.Tie as tie
+
+pub media-held-spec : {M : Type 1} → statement M
+media-held-spec =
+    tie.close
+    (tie.spec
+    (λ c. search needs)
+    (λ c. search needs)
+    (λ c. search needs)
+    (λ c. search needs)
+    (λ c. search needs)
+    (λ c. search needs)
+    (λ c. search needs)
+    (λ c. search needs)
+    (λ c. search needs)
+    (λ c. rw (c .enum-told5 .given .1)))

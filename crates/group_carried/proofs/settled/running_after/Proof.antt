@@ -1,0 +1,12 @@
+-- `group_carried::settled::running_after` meets its contract: what is known at each return gives the case. Assumes nothing.
+use mathlib.Core.Path.{refl}
+use Rattle.group_carried.specs.Carried.{runningAfter}
+use Rattle.group_carried.proofs.settled.running_after.Statement.{statement}
+use Rattle.group_carried.proofs.settled.running_after.Tie as tie
+
+pub running-after-spec : {M : Type 1} → statement M
+unfolding runningAfter
+running-after-spec =
+    tie.close
+    (tie.spec
+    (λ c. refl))

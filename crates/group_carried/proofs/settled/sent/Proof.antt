@@ -1,0 +1,18 @@
+-- `group_carried::settled::sent` meets its contract: what is known at each return gives the case. Assumes nothing.
+use borrow.Author.Needs.{needs}
+use Rattle.group_carried.proofs.settled.sent.Statement.{statement}
+use Rattle.group_carried.proofs.settled.sent.Tie as tie
+
+pub sent-spec : {M : Type 1} → statement M
+sent-spec =
+    tie.close
+    (tie.spec
+    (λ c. search needs)
+    (λ c. search needs)
+    (λ c. search needs)
+    (λ c. search needs)
+    (λ c κs. search needs)
+    (λ c. search needs)
+    (λ c. rw (c .enum-told2 .given .1))
+    (λ c. rw (c .enum-told3 .given .1))
+    (λ c. rw (c .accept-of .ensures, c .before .enum-told4 .given .1)))

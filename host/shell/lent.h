@@ -1,4 +1,4 @@
-/* lent.h: the memory that the panel shell lends to the entries, between two guards that tell whether it was overrun. */
+/* lent.h: the memory that the panel shell lends to the entries, between two guards that tell a write ahead of it or behind. */
 #ifndef LENT_H
 #define LENT_H
 

@@ -2,8 +2,12 @@
  * panel-shell [LOG]: what a cab's panel shows of the lines that it hears.
  *
  * Reads the file LOG, or standard input where none is named or LOG is `-`: at most its first 65,536 bytes. Says of each
- * line in words what it is, holds on to the best announcement, and says which of two calls wins. All that it knows of
- * lines and calls it asks the proved entries; of itself it knows only that an announcement begins with the digits 08.
+ * line in words what it is, holds on to the best announcement of the first group that it hears, and says which of two
+ * calls wins. What it knows of lines and calls it asks the proved entries; of itself it knows only that 0A ends a line,
+ * and that an announcement begins with the digits 08.
+ *
+ * Ends with 0; with 1 where its answer could not be written, 2 for bad usage or a log that cannot be read, 3 where memory
+ * beside the buffer was changed.
  */
 #include <stdbool.h>
 #include <stddef.h>
@@ -43,7 +47,7 @@ static const char *in_words(uint32_t number)
         words = "it does not end in a line end";
         break;
     case PANEL_NO_DIGIT:
-        words = "something else than the digits 0-9 and a-f stands in it";
+        words = "something other than the digits 0-9 and a-f stands in it";
         break;
     case PANEL_NO_KIND:
         words = "it names none of the kinds 01 to 09";
@@ -76,16 +80,16 @@ static struct line settle(struct line held, struct line heard_now)
     const uint32_t chosen = panel_choose(held.bytes, held.length, heard_now.bytes, heard_now.length);
     struct line winner = held;
 
-    if (chosen == PANEL_NEITHER) {
-        const uint32_t number = panel_choose_number(held.bytes, held.length, heard_now.bytes, heard_now.length);
-
-        (void)printf("announcement: no choice with line %lu (%lu): %s\n", held.place, (unsigned long)number,
-                     in_words(number));
+    if (chosen == PANEL_FIRST) {
+        (void)printf("announcement: the call of line %lu wins over it\n", held.place);
     } else if (chosen == PANEL_SECOND) {
         winner = heard_now;
         (void)printf("announcement: its call wins over that of line %lu\n", held.place);
     } else {
-        (void)printf("announcement: the call of line %lu wins over it\n", held.place);
+        const uint32_t number = panel_choose_number(held.bytes, held.length, heard_now.bytes, heard_now.length);
+
+        (void)printf("announcement: no choice with line %lu (%lu): %s\n", held.place, (unsigned long)number,
+                     in_words(number));
     }
     return winner;
 }
@@ -147,7 +151,7 @@ static int play(void)
 
         held = hear(held, next);
         if (!lent_intact(&heard)) {
-            (void)fprintf(stderr, "panel-shell: memory beside the log was changed at line %lu\n", place);
+            (void)fprintf(stderr, "panel-shell: memory beside the buffer was changed at line %lu\n", place);
             end = OVERRUN;
         }
         at += next.length;
@@ -155,25 +159,23 @@ static int play(void)
     }
     if (end == DONE) {
         tell_held(held);
-        if ((fflush(stdout) != 0) || (ferror(stdout) != 0)) {
-            (void)fprintf(stderr, "panel-shell: the answer could not be written\n");
-            end = UNWRITTEN;
-        }
     }
     return end;
 }
 
 /* Reads the log into the lent bytes, and says so where there is more of it or it cannot be read. */
-static int take_in(FILE *log, const char *name)
+static int take_in(FILE *source, const char *name)
 {
     int end = DONE;
+    bool more;
 
     lent_prepare(&heard);
-    heard.length = fread(heard.bytes, 1U, LENT_MOST, log);
-    if (ferror(log) != 0) {
+    heard.length = fread(heard.bytes, 1U, LENT_MOST, source);
+    more = (heard.length == LENT_MOST) && (fgetc(source) != EOF);
+    if (ferror(source) != 0) {
         (void)fprintf(stderr, "panel-shell: %s: cannot be read\n", name);
         end = UNUSABLE;
-    } else if ((heard.length == LENT_MOST) && (fgetc(log) != EOF)) {
+    } else if (more) {
         (void)fprintf(stderr, "panel-shell: %s: only its first %lu bytes are heard\n", name, (unsigned long)LENT_MOST);
     } else {
         /* all of it was read */
@@ -185,15 +187,15 @@ static int take_in(FILE *log, const char *name)
 static int play_named(const char *name)
 {
     const bool standard = (strcmp(name, "-") == 0);
-    FILE *const log = standard ? stdin : fopen(name, "rb");
+    FILE *const source = standard ? stdin : fopen(name, "rb");
     int end = UNUSABLE;
 
-    if (log == NULL) {
+    if (source == NULL) {
         (void)fprintf(stderr, "panel-shell: %s: cannot be opened\n", name);
     } else {
-        end = take_in(log, standard ? "standard input" : name);
+        end = take_in(source, standard ? "standard input" : name);
         if (!standard) {
-            (void)fclose(log);
+            (void)fclose(source);
         }
         if (end == DONE) {
             end = play();
@@ -202,6 +204,19 @@ static int play_named(const char *name)
     return end;
 }
 
+/* Where all went well so far, says whether what was printed has also been written. */
+static int written(int end)
+{
+    int now = end;
+
+    if ((end == DONE) && ((fflush(stdout) != 0) || (ferror(stdout) != 0))) {
+        (void)fprintf(stderr, "panel-shell: the answer could not be written\n");
+        now = UNWRITTEN;
+    }
+    return now;
+}
+
+/* Says how to call the program, plays the log that is named, or refuses. */
 int main(int argc, char *argv[])
 {
     int end = DONE;
@@ -211,9 +226,10 @@ int main(int argc, char *argv[])
         end = UNUSABLE;
     } else if ((argc == 2) && ((strcmp(argv[1], "--help") == 0) || (strcmp(argv[1], "-h") == 0))) {
         (void)printf("panel-shell [LOG]: says what each line of a log is, and which announced call wins.\n"
-                     "Reads the file LOG, or standard input where none is named or LOG is -.\n");
+                     "Reads the file LOG, or standard input where none is named or LOG is -: at most 65,536 bytes.\n"
+                     "Ends with 0; 1: not written, 2: bad usage or input, 3: memory beside its buffer was changed.\n");
     } else {
         end = play_named((argc == 2) ? argv[1] : "-");
     }
-    return end;
+    return written(end);
 }

@@ -25,9 +25,18 @@ judge() {
 
 # ---- header, archive, shell
 
+# Built ahead of the case, so that it does not see it being proved.
+bash host/panel.sh >/dev/null 2>&1
 CFLAGS='-Werror' bash host/panel.sh >"$room/wrote" 2>"$room/said"
-printf '%s\n' target/panel/libpanel.a target/panel/panel-shell target/panel/panel.h >"$room/wanted"
-judge "one command builds header, archive and shell, without a warning" $? 0 "$room/wanted"
+ended=$?
+printf '%s\n' target/panel/panel.h target/panel/libpanel.a target/panel/panel-shell >"$room/wanted"
+judge "one command builds header, archive and shell, without a warning" $ended 0 "$room/wanted"
+# Without them there is nothing to try.
+[ $status -eq 0 ] || exit $status
+
+: >"$room/wanted"
+CC=no-such-compiler bash host/panel.sh >"$room/wrote" 2>"$room/said"
+judge "a compiler that is not there is named" $? 2 "$room/wanted" "panel: no C compiler: no-such-compiler"
 
 # shellcheck disable=SC2086
 wrong=$(echo '#include "panel.h"' | gcc -x c -std=c99 $warnings -Wmissing-prototypes -fsyntax-only -I target/panel - 2>&1 | head -n 1)
@@ -43,17 +52,20 @@ declared() {
         sed 's/\([a-z_]*\): &\[u8\]/const uint8_t *\1, size_t \1_len/g'
 }
 declared | sort >"$room/wanted"
-grep '^uint32_t ' $header | sort >"$room/wrote"
+grep -E '^[a-z].*\);$' $header | sort >"$room/wrote"
 : >"$room/said"
+[ "$(grep -c '^pub extern "C" fn ' crates/panel/src/lib.rt)" -eq "$(wc -l <"$room/wanted")" ] || echo "an entry of the crate was not understood" >"$room/said"
 judge "the header declares the entries of the crate, as they are" 0 0 "$room/wanted"
 
-nm target/panel/libpanel.a | sed -n 's/^[0-9a-f]* *\([A-Z]\) \(.*\)/\1 \2/p' | sort >"$room/wrote"
-sed -n 's/^pub extern "C" fn \([a-z_]*\).*/T \1/p' crates/panel/src/lib.rt | sort >"$room/wanted"
-judge "the archive has those entries and needs nothing else" 0 0 "$room/wanted"
+# Whatever the archive has but code and constants of its own.
+nm target/panel/libpanel.a | sed -n 's/^[0-9a-f ]* \([^rt]\) \(.*\)$/\1 \2/p' | sort >"$room/wrote"
+sed -n 's/^pub extern "C" fn \([a-z0-9_]*\).*/T \1/p' crates/panel/src/lib.rt | sort >"$room/wanted"
+: >"$room/said"
+judge "the archive has those entries, keeps no state and needs nothing else" 0 0 "$room/wanted"
 
 # ---- the entries
 
-# Compiles the entries' cases to the second word, with the words behind it.
+# Compiles the entries' cases to the first word, with the words behind it.
 compile_entries() {
     local to=$1
     shift
@@ -78,7 +90,12 @@ verdict "valgrind would find a byte read too many" "$([ $ended -eq $found ] || e
 
 # shellcheck disable=SC2086
 compile_entries "$room/sanitized" $sanitized && "$room/sanitized" >"$room/wrote" 2>"$room/said"
-judge "the entries under the address sanitizer" $? 0 "$room/wanted"
+judge "the code that calls the entries, under the address and undefined behaviour sanitizers" $? 0 "$room/wanted"
+
+# shellcheck disable=SC2086
+gcc -std=c99 -O2 $warnings -I target/panel -o "$room/stack" host/tests/panel_stack.c target/panel/libpanel.a
+most=$("$room/stack")
+verdict "no entry takes the 512 bytes of stack that panel.h names" "$([ "${most:-512}" -gt 0 ] && [ "${most:-512}" -lt 512 ] || echo "${most:-no} bytes")"
 
 # ---- the shell
 
@@ -97,7 +114,7 @@ judge "the shell under valgrind" $? 0 $shown
 # shellcheck disable=SC2086
 gcc -std=c99 $warnings $sanitized -I target/panel -I host/shell -o "$room/shell" host/shell/*.c target/panel/libpanel.a &&
     "$room/shell" $sample >"$room/wrote" 2>"$room/said"
-judge "the shell under the address sanitizer" $? 0 $shown
+judge "the shell under the address and undefined behaviour sanitizers" $? 0 $shown
 
 # What the shell says of each line, in the words of the program lines: `!` and a number, or the line itself, which it does not show.
 verdicts() { sed -n 's/^[0-9]*: refused (\([0-9]*\)).*/!\1/p; s/^[0-9]*: \(readable\|announcement\).*/good/p' "$1"; }
@@ -113,8 +130,10 @@ judge "no input is no call" $? 0 "$room/wanted"
 
 # ---- the ends of what the shell reads
 
+# 2,849 lines of 23 bytes are 65,527: nine bytes are left of the next one.
 yes 0212340000000700000009 | head -c 65536 >"$room/full"
-"$room/shell" "$room/full" >"$room/wanted" 2>/dev/null
+seq -f '%.0f: readable, and no announcement' 2849 >"$room/wanted"
+printf '%s\n' '2850: refused (1): it does not end in a line end' 'no call' >>"$room/wanted"
 $shell "$room/full" >"$room/wrote" 2>"$room/said"
 judge "65,536 bytes are heard, and nothing is said of more" $? 0 "$room/wanted"
 
@@ -122,10 +141,16 @@ judge "65,536 bytes are heard, and nothing is said of more" $? 0 "$room/wanted"
 $shell "$room/long" >"$room/wrote" 2>"$room/said"
 judge "a byte more is named and not heard" $? 0 "$room/wanted" "panel-shell: $room/long: only its first 65536 bytes are heard"
 
+$shell <"$room/long" >"$room/wrote" 2>"$room/said"
+judge "a byte more is named of standard input too" $? 0 "$room/wanted" "panel-shell: standard input: only its first 65536 bytes are heard"
+
 : >"$room/wanted"
 : >"$room/wrote"
 $shell $sample >/dev/full 2>"$room/said"
 judge "an answer that cannot be written is named" $? 1 "$room/wanted" "panel-shell: the answer could not be written"
+
+$shell --help >/dev/full 2>"$room/said"
+judge "help that cannot be written is named" $? 1 "$room/wanted" "panel-shell: the answer could not be written"
 
 $shell "$room/none" >"$room/wrote" 2>"$room/said"
 judge "a log that is not there is named" $? 2 "$room/wanted" "panel-shell: $room/none: cannot be opened"
@@ -133,27 +158,43 @@ judge "a log that is not there is named" $? 2 "$room/wanted" "panel-shell: $room
 $shell "$room" >"$room/wrote" 2>"$room/said"
 judge "a folder is no log" $? 2 "$room/wanted" "panel-shell: $room: cannot be read"
 
+$shell <"$room" >"$room/wrote" 2>"$room/said"
+judge "a folder is no standard input" $? 2 "$room/wanted" "panel-shell: standard input: cannot be read"
+
 $shell $sample $sample >"$room/wrote" 2>"$room/said"
 judge "two logs are one too many" $? 2 "$room/wanted" "panel-shell: usage: panel-shell [LOG]"
 
-# A guard that is changed is told: the shell with one byte of it changed ahead of the first line.
-sed 's|held = hear(held, next);|& heard.behind[0] = 0U;|' host/shell/panel_shell.c >"$room/spoilt.c"
-gcc -std=c99 -I target/panel -I host/shell -o "$room/spoilt" "$room/spoilt.c" host/shell/lent.c target/panel/libpanel.a &&
-    "$room/spoilt" $sample >"$room/shown" 2>"$room/said"
-ended=$?
-head -n 1 "$room/shown" >"$room/wrote"
+$shell --help >"$room/wrote" 2>"$room/said"
+verdict "--help says how to call the shell" "$(grep -q '^panel-shell \[LOG\]: ' "$room/wrote" || echo "printed: $(head -n 1 "$room/wrote")")"
+
+# A guard that is changed is told: the shell with one byte of a guard changed once the first line is heard.
 head -n 1 $shown >"$room/wanted"
-judge "a byte changed beside the log is told" $ended 3 "$room/wanted" "panel-shell: memory beside the log was changed at line 1"
+for byte in 'ahead[0]' 'ahead[LENT_GUARD - 1U]' 'behind[0]' 'behind[LENT_GUARD - 1U]'; do
+    sed "s|held = hear(held, next);|& heard.$byte = 0U;|" host/shell/panel_shell.c >"$room/spoilt.c"
+    gcc -std=c99 -I target/panel -I host/shell -o "$room/spoilt" "$room/spoilt.c" host/shell/lent.c target/panel/libpanel.a &&
+        "$room/spoilt" $sample >"$room/shown" 2>"$room/said"
+    ended=$?
+    head -n 1 "$room/shown" >"$room/wrote"
+    judge "a change of the guard at $byte is told" $ended 3 "$room/wanted" "panel-shell: memory beside the buffer was changed at line 1"
+done
 
 # ---- a newcomer's program
 
 sed -n '/^```c$/,/^```$/p' README.md | sed '1d;$d' >"$room/mine.c"
+sed -n 's|^/\* prints: \(.*\) \*/$|\1|p' "$room/mine.c" >"$room/wanted"
+[ -s "$room/wanted" ] || echo "what the program of README.md says that it prints" >"$room/wanted"
+command=$(sed -n 's/^    \(cc .* mine\.c .*\)$/\1/p' README.md)
+ln -s "$(pwd -P)/target" "$room/target"
+(cd "$room" && eval "${command:-false}" && ./mine) >"$room/wrote" 2>"$room/said"
+judge "the program in README.md compiles by the command that stands there, and prints what it says" $? 0 "$room/wanted"
+
 # shellcheck disable=SC2086
-gcc -std=c99 $warnings -I target/panel -o "$room/mine" "$room/mine.c" target/panel/libpanel.a 2>"$room/said" &&
+gcc -std=c99 $warnings -fsyntax-only -I target/panel "$room/mine.c" >"$room/wrote" 2>&1
+verdict "the program in README.md has no warning" "$(head -n 1 "$room/wrote")"
+
+# shellcheck disable=SC2086
+g++ -x c++ $warnings -I target/panel -o "$room/mine" "$room/mine.c" -x none target/panel/libpanel.a 2>"$room/said" &&
     "$room/mine" >"$room/wrote" 2>>"$room/said"
-ended=$?
-sed -n '/^\/\* prints: .* \*\/$/s|^/\* prints: \(.*\) \*/$|\1|p' "$room/mine.c" >"$room/wanted"
-[ -s "$room/wanted" ] || echo "the program of README.md says what it prints" >"$room/wanted"
-judge "the program in README.md compiles, links and prints what it says" $ended 0 "$room/wanted"
+judge "the same program is good C++, and links" $? 0 "$room/wanted"
 
 exit $status

@@ -48,37 +48,65 @@ struct answers {
 /* The cases. */
 static const struct one_case cases[] = {
     {"a ringing line is readable, and no announcement", LINE("0212340000000700000009\n"),
-     ANNOUNCED("0010", "02", "000003e8"), 0U, 0U, 10U},
-    {"a capital digit is 2", LINE("021234000000070000000A\n"), ANNOUNCED("0010", "02", "000003e8"), 2U, 0U, 2U},
-    {"a line end alone is 3", LINE("\n"), ANNOUNCED("0010", "02", "000003e8"), 3U, 0U, 3U},
-    {"kind 0a is 3", LINE("0a12340000000700000009\n"), ANNOUNCED("0010", "02", "000003e8"), 3U, 0U, 3U},
-    {"a line of no bytes is 1", LINE(""), ANNOUNCED("0010", "02", "000003e8"), 1U, 0U, 1U},
-    {"a line without its end is 1", LINE("0212340000000700000009"), ANNOUNCED("0010", "02", "000003e8"), 1U, 0U, 1U},
-    {"a zero byte ahead of the line end is 2", LINE("021234000000070000000\0\n"), ANNOUNCED("0010", "02", "000003e8"),
-     2U, 0U, 2U},
-    {"a digit too many is 4", LINE("02123400000007000000090\n"), ANNOUNCED("0010", "02", "000003e8"), 4U, 0U, 4U},
-    {"an identifier 0 is 5", LINE("0200000000000700000009\n"), ANNOUNCED("0010", "02", "000003e8"), 5U, 0U, 5U},
+     ANNOUNCED("0010", "02", "000003e8"), PANEL_READABLE, PANEL_NEITHER, PANEL_NO_CHOICE},
+    {"a capital digit is 2", LINE("021234000000070000000A\n"),
+     ANNOUNCED("0010", "02", "000003e8"), PANEL_NO_DIGIT, PANEL_NEITHER, PANEL_NO_DIGIT},
+    {"a line end alone is 3", LINE("\n"),
+     ANNOUNCED("0010", "02", "000003e8"), PANEL_NO_KIND, PANEL_NEITHER, PANEL_NO_KIND},
+    {"one digit is 3", LINE("0\n"),
+     ANNOUNCED("0010", "02", "000003e8"), PANEL_NO_KIND, PANEL_NEITHER, PANEL_NO_KIND},
+    {"kind 0a is 3", LINE("0a12340000000700000009\n"),
+     ANNOUNCED("0010", "02", "000003e8"), PANEL_NO_KIND, PANEL_NEITHER, PANEL_NO_KIND},
+    {"a line of no bytes is 1", LINE(""),
+     ANNOUNCED("0010", "02", "000003e8"), PANEL_UNENDED, PANEL_NEITHER, PANEL_UNENDED},
+    {"a line without its end is 1", LINE("0212340000000700000009"),
+     ANNOUNCED("0010", "02", "000003e8"), PANEL_UNENDED, PANEL_NEITHER, PANEL_UNENDED},
+    {"a line with its terminating zero is 1", LINE("0212340000000700000009\n\0"),
+     ANNOUNCED("0010", "02", "000003e8"), PANEL_UNENDED, PANEL_NEITHER, PANEL_UNENDED},
+    {"a zero byte ahead of the line end is 2", LINE("021234000000070000000\0\n"),
+     ANNOUNCED("0010", "02", "000003e8"), PANEL_NO_DIGIT, PANEL_NEITHER, PANEL_NO_DIGIT},
+    {"a CR ahead of the line end is 2", LINE("0212340000000700000009\r\n"),
+     ANNOUNCED("0010", "02", "000003e8"), PANEL_NO_DIGIT, PANEL_NEITHER, PANEL_NO_DIGIT},
+    {"two lines in one are 2", LINE("0212340000000700000009\n0212340000000700000009\n"),
+     ANNOUNCED("0010", "02", "000003e8"), PANEL_NO_DIGIT, PANEL_NEITHER, PANEL_NO_DIGIT},
+    {"a digit too many is 4", LINE("02123400000007000000090\n"),
+     ANNOUNCED("0010", "02", "000003e8"), PANEL_WRONG_COUNT, PANEL_NEITHER, PANEL_WRONG_COUNT},
+    {"a digit too few is 4", LINE("021234000000070000000\n"),
+     ANNOUNCED("0010", "02", "000003e8"), PANEL_WRONG_COUNT, PANEL_NEITHER, PANEL_WRONG_COUNT},
+    {"an identifier 0 is 5", LINE("0200000000000700000009\n"),
+     ANNOUNCED("0010", "02", "000003e8"), PANEL_OUT_OF_RANGE, PANEL_NEITHER, PANEL_OUT_OF_RANGE},
     {"a PCK-ID of 30000000 passes", LINE("011234000000070000000900040000000530000000\n"),
-     ANNOUNCED("0010", "02", "000003e8"), 0U, 0U, 10U},
+     ANNOUNCED("0010", "02", "000003e8"), PANEL_READABLE, PANEL_NEITHER, PANEL_NO_CHOICE},
     {"a PCK-ID of 40000000 is 5", LINE("011234000000070000000900040000000540000000\n"),
-     ANNOUNCED("0010", "02", "000003e8"), 5U, 0U, 5U},
-    {"of two refused lines the first tells its number", LINE("0a\n"), LINE("zz\n"), 3U, 0U, 3U},
-    {"the second line's number comes ahead of 10", LINE("0212340000000700000009\n"), LINE("zz\n"), 0U, 0U, 2U},
+     ANNOUNCED("0010", "02", "000003e8"), PANEL_OUT_OF_RANGE, PANEL_NEITHER, PANEL_OUT_OF_RANGE},
+    {"of two refused lines the first tells its number", LINE("0a\n"),
+     LINE("zz\n"), PANEL_NO_KIND, PANEL_NEITHER, PANEL_NO_KIND},
+    {"a second line without its end is 1, ahead of 10", LINE("0212340000000700000009\n"),
+     LINE("08"), PANEL_READABLE, PANEL_NEITHER, PANEL_UNENDED},
+    {"a second line that is no digits is 2, ahead of 10", LINE("0212340000000700000009\n"),
+     LINE("zz\n"), PANEL_READABLE, PANEL_NEITHER, PANEL_NO_DIGIT},
+    {"a second line of no kind is 3, ahead of 10", LINE("0212340000000700000009\n"),
+     LINE("00\n"), PANEL_READABLE, PANEL_NEITHER, PANEL_NO_KIND},
+    {"a second line too short is 4, ahead of 10", LINE("0212340000000700000009\n"),
+     LINE("08\n"), PANEL_READABLE, PANEL_NEITHER, PANEL_WRONG_COUNT},
+    {"a second line out of range is 5, ahead of 10", LINE("0212340000000700000009\n"),
+     ANNOUNCED("0010", "04", "000003e8"), PANEL_READABLE, PANEL_NEITHER, PANEL_OUT_OF_RANGE},
     {"at equal rank and start identifier 16 wins over 17, named first", ANNOUNCED("0010", "01", "000003e8"),
-     ANNOUNCED("0011", "01", "000003e8"), 0U, 1U, 0U},
+     ANNOUNCED("0011", "01", "000003e8"), PANEL_READABLE, PANEL_FIRST, PANEL_CHOSEN},
     {"at equal rank and start identifier 16 wins over 17, named second", ANNOUNCED("0011", "01", "000003e8"),
-     ANNOUNCED("0010", "01", "000003e8"), 0U, 2U, 0U},
+     ANNOUNCED("0010", "01", "000003e8"), PANEL_READABLE, PANEL_SECOND, PANEL_CHOSEN},
     {"emergency, 2, wins over imminent peril, 3", ANNOUNCED("0011", "03", "000003e8"),
-     ANNOUNCED("0012", "02", "000003e8"), 0U, 2U, 0U},
-    {"imminent peril, 3, wins over basic, 1", ANNOUNCED("0012", "03", "000003e9"), ANNOUNCED("0011", "01", "000003e8"),
-     0U, 1U, 0U},
+     ANNOUNCED("0012", "02", "000003e8"), PANEL_READABLE, PANEL_SECOND, PANEL_CHOSEN},
+    {"imminent peril, 3, wins over basic, 1", ANNOUNCED("0012", "03", "000003e9"),
+     ANNOUNCED("0011", "01", "000003e8"), PANEL_READABLE, PANEL_FIRST, PANEL_CHOSEN},
     {"an emergency that started later wins over a basic call", ANNOUNCED("0010", "01", "000003e8"),
-     ANNOUNCED("0011", "02", "ffffffff"), 0U, 2U, 0U},
-    {"at equal rank the earlier start wins", ANNOUNCED("0010", "02", "80000000"), ANNOUNCED("0011", "02", "7fffffff"), 0U,
-     2U, 0U},
-    {"the same identifier is 10", ANNOUNCED("0010", "01", "000003e8"), ANNOUNCED("0010", "02", "000003e8"), 0U, 0U, 10U},
+     ANNOUNCED("0011", "02", "ffffffff"), PANEL_READABLE, PANEL_SECOND, PANEL_CHOSEN},
+    {"at equal rank the earlier start wins, and starts do not wrap", ANNOUNCED("0010", "02", "80000000"),
+     ANNOUNCED("0011", "02", "7fffffff"), PANEL_READABLE, PANEL_SECOND, PANEL_CHOSEN},
+    {"the same identifier is 10", ANNOUNCED("0010", "01", "000003e8"),
+     ANNOUNCED("0010", "02", "000003e8"), PANEL_READABLE, PANEL_NEITHER, PANEL_NO_CHOICE},
     {"another group is 10", ANNOUNCED("0010", "01", "000003e8"),
-     LINE("0800110000000402001e0000000500000007000003e8000003e80000000700\n"), 0U, 0U, 10U},
+     LINE("0800110000000402001e0000000500000007000003e8000003e80000000700\n"), PANEL_READABLE, PANEL_NEITHER, PANEL_NO_CHOICE},
 };
 
 /* Asks the three entries about two lines. */
@@ -186,15 +214,54 @@ static int try_case(const struct one_case *one)
     return 1;
 }
 
-/* A null pointer with length 0 is the empty line, for each of the three entries. */
-static int try_null(void)
+/* Tells of one question about given pointers whether its answers are the wanted ones; gives 0 where they are. */
+static int try_pointers(const struct one_case *wanted, struct answers got)
 {
-    static const struct one_case nothing = {"a null pointer with length 0 is the empty line", LINE(""), LINE(""), 1U, 0U, 1U};
-    const bool good = tell(nothing.name, "of null pointers", &nothing, ask(NULL, 0U, NULL, 0U));
+    const bool good = tell(wanted->name, "of these pointers", wanted, got);
 
     if (good) {
-        (void)printf("ok %s\n", nothing.name);
+        (void)printf("ok %s\n", wanted->name);
     }
+    return good ? 0 : 1;
+}
+
+/* Pointers that no copy of a line has: null with length 0, and two lines in the same bytes. */
+static int try_odd_pointers(void)
+{
+    static const struct line given = ANNOUNCED("0010", "01", "000003e8");
+    static const struct one_case both_null = {"two null pointers with length 0 are two empty lines", LINE(""), LINE(""),
+                                              PANEL_UNENDED, PANEL_NEITHER, PANEL_UNENDED};
+    static const struct one_case first_null = {"a null pointer with length 0 is an empty first line", LINE(""), LINE(""),
+                                               PANEL_UNENDED, PANEL_NEITHER, PANEL_UNENDED};
+    static const struct one_case second_null = {"a null pointer with length 0 is an empty second line", LINE(""), LINE(""),
+                                                PANEL_READABLE, PANEL_NEITHER, PANEL_UNENDED};
+    static const struct one_case same = {"a line and itself have the same identifier", LINE(""), LINE(""),
+                                         PANEL_READABLE, PANEL_NEITHER, PANEL_NO_CHOICE};
+    static const struct one_case overlapping = {"two lines may overlap", LINE(""), LINE(""), PANEL_READABLE, PANEL_NEITHER,
+                                                PANEL_NO_KIND};
+    uint8_t *const bytes = guarded(given);
+    const uint8_t *const line = &bytes[GUARD];
+    int failed = 0;
+
+    failed += try_pointers(&both_null, ask(NULL, 0U, NULL, 0U));
+    failed += try_pointers(&first_null, ask(NULL, 0U, line, given.length));
+    failed += try_pointers(&second_null, ask(line, given.length, NULL, 0U));
+    failed += try_pointers(&same, ask(line, given.length, line, given.length));
+    failed += try_pointers(&overlapping, ask(line, given.length, &line[1], given.length - 1U));
+    free(bytes);
+    return failed;
+}
+
+/* The constants of panel.h have the values that its text and the table of numbers give them. */
+static int try_constants(void)
+{
+    const bool good = (PANEL_READABLE == 0U) && (PANEL_UNENDED == 1U) && (PANEL_NO_DIGIT == 2U) &&
+                      (PANEL_NO_KIND == 3U) && (PANEL_WRONG_COUNT == 4U) && (PANEL_OUT_OF_RANGE == 5U) &&
+                      (PANEL_CHOSEN == 0U) && (PANEL_NO_CHOICE == 10U) && (PANEL_NEITHER == 0U) && (PANEL_FIRST == 1U) &&
+                      (PANEL_SECOND == 2U);
+
+    (void)printf("%s\n", good ? "ok the constants of panel.h have their values"
+                              : "FAILED the constants of panel.h have their values: one has another");
     return good ? 0 : 1;
 }
 
@@ -202,8 +269,8 @@ static int try_null(void)
 static int try_longest(void)
 {
     static const struct one_case longest = {"the longest line is as long as panel.h says, and readable",
-                                            ANNOUNCED("0010", "01", "000003e8"), ANNOUNCED("0010", "01", "000003e8"), 0U,
-                                            0U, 10U};
+                                            ANNOUNCED("0010", "01", "000003e8"), ANNOUNCED("0010", "01", "000003e8"),
+                                            PANEL_READABLE, PANEL_NEITHER, PANEL_NO_CHOICE};
 
     if (longest.first.length != PANEL_LONGEST_LINE) {
         (void)printf("FAILED %s: it has %lu bytes\n", longest.name, (unsigned long)longest.first.length);
@@ -212,9 +279,10 @@ static int try_longest(void)
     return try_case(&longest);
 }
 
+/* Tries everything. */
 int main(void)
 {
-    int failed = try_null() + try_longest();
+    int failed = try_constants() + try_odd_pointers() + try_longest();
     size_t at;
 
     for (at = 0U; at < (sizeof(cases) / sizeof(cases[0])); at++) {

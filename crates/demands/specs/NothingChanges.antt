@@ -33,7 +33,7 @@ NothingChanges text result lent after =
 abbrev pub ReadNothingChanges : Type 0
 ReadNothingChanges = (l : List ℕ) → (lineNumber l ≡ 0 → ⊥) → readLine l ≡ refusal (lineNumber l)
 
--- the chooser: where its question has a number, it hands back no bytes, at the front of the first line
+-- the chooser: where its question has a number, it hands back no bytes, where the first line begins
 abbrev pub ChooseNothingChanges : Type 0
 ChooseNothingChanges =
     (first second : RefT (List ℕ)) → (choiceNumber (first .now) (second .now) ≡ 0 → ⊥)

@@ -161,3 +161,7 @@ lineNumber l = refusalOf l
 -- the message of a line or the number that refuses it, for whoever has no settings
 abbrev pub lineMessage : List ℕ → Read
 lineMessage l = readLine l .read
+
+-- the media of a line, none where it is refused or its kind carries none, for whoever has no settings
+abbrev pub lineMedia : List ℕ → Media
+lineMedia l = readLine l .media

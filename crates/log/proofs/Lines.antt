@@ -15,7 +15,7 @@ use Rattle.log.specs.Lines.{isEnd, ahead, linesOf, joined, firstLine, af
 
 -- ---- joined
 
--- a byte put at the front of the first line is put at the front of the log
+-- a byte put ahead of the first line is put ahead of the log
 joined-ahead : (x : ℕ) (lines : List (List ℕ)) → joined (ahead x lines) ≡ x ∷ joined lines
 unfolding flatten
 joined-ahead x [] = refl

@@ -3,12 +3,12 @@ use Prim.Native.Nat.{ℕ, _+_, _%_}
 use mathlib.Core.List.{List, [], _∷_, _++_}
 use mathlib.Core.Bool.{Bool, not, cond}
 use lib.ListN.{getD, length}
-use Rattle.frame.specs.Digits.{Width, one, twice}
+use Rattle.frame.specs.Digits.{Width, one, twice, two, size}
 use Rattle.frame.specs.Range.{within}
 use Rattle.frame.specs.Media.{noMedia}
 use Rattle.frame.specs.Frame.{kindOf, carries}
 use Rattle.frame.specs.Layout.{front, back, frontOf, backOf}
-use Rattle.frame.specs.Line.{partiesOf, setupOf, groupCallOf, acceptanceOf, messageOf, readLine}
+use Rattle.frame.specs.Line.{partiesOf, setupOf, groupCallOf, acceptanceOf, messageOf, lineMessage, lineMedia}
 use Rattle.frame.specs.declared.Media.{Media}
 use Rattle.frame.specs.declared.Parties.{Parties}
 use Rattle.frame.specs.declared.Setup.{Setup}
@@ -21,9 +21,17 @@ use Rattle.writer.specs.Writing.{writeNumber, bufferOf}
 
 -- ---- the values of a frame
 
--- the media's number, where the kind carries media
+-- media as a value: its number
+abbrev pub mediaValue : Media → ℕ
+mediaValue media = media .number
+
+-- the media of a value
+abbrev pub mediaWith : ℕ → Media
+mediaWith value = record { number = value }
+
+-- the value of the media, where the kind carries media
 abbrev pub mediaValues : ℕ → Media → List ℕ
-mediaValues kind media = cond (carries kind) (media .number ∷ []) []
+mediaValues kind media = cond (carries kind) (mediaValue media ∷ []) []
 
 -- the values of a frame
 abbrev pub frameValues : Message → Media → List ℕ
@@ -36,14 +44,14 @@ readValues (Refused n) media = []
 
 -- the values of a line
 unfoldable pub lineValues : List ℕ → List ℕ
-lineValues l = readValues (readLine l .read) (readLine l .media)
+lineValues l = readValues (lineMessage l) (lineMedia l)
 
 -- ---- the frame of values
 
 -- a value of four bytes, cut to the width of its field
 abbrev pub cut : Width → ℕ → ℕ
-cut one v = v % 256
-cut (twice one) v = v % 65536
+cut one v = v % size one
+cut (twice one) v = v % size two
 cut (twice (twice w)) v = v
 
 -- the values from a place on, one a width; what is not there is 0
@@ -85,7 +93,7 @@ messageIn kind values = messageOf kind (valuesAt (front kind) values 0) (valuesA
 
 -- the media of a kind with these values
 abbrev pub mediaIn : ℕ → List ℕ → Media
-mediaIn kind values = cond (carries kind) (record { number = getD values (mediaIndex kind) 0 }) noMedia
+mediaIn kind values = cond (carries kind) (mediaWith (getD values (mediaIndex kind) 0)) noMedia
 
 -- ---- writing values
 

@@ -1,5 +1,6 @@
 // Entries for the host's own trials of what the panel shell does not call: the values that a line is read as, the line
 // that values are written as, and the answer to a log.
+mod carried;
 mod values;
 
 ghost use mathlib.Core.Path.{_≡_};
@@ -27,8 +28,8 @@ pub extern "C" fn trial_value(line: &[u8], place: usize) -> u32
     }
 }
 
-// The line of the frame with these values at the front of a lent buffer, and its number: 3 where the first is no kind,
-// 5 where one is outside its range, 6 where there is no room. A value is cut to the width of its field.
+// The line of the frame with these values, each behind the kind cut to the width of its field, at the front of a lent
+// buffer, and its number: 3 where the first is no kind, 5 where one is outside its range, 6 where there is no room.
 #[no_mangle]
 pub extern "C" fn trial_write_line(values: &[u32], out: &mut [u8]) -> u32
     ensures { λ r. ⌜ r ≡ valuesNumber (now (values .entry)) (now (out .entry)) ⌝ }

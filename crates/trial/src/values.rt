@@ -7,7 +7,9 @@ ghost use Rattle.frame.specs.Digits.{one, two};
 ghost use Rattle.frame.specs.Layout.{partiesThen, acceptanceThen};
 ghost use Rattle.frame.specs.declared.Message.the-variants.{SetupRequest, Announcement};
 ghost use Rattle.trial.specs.Values.{frameValues, cut, partiesIn, setupIn, groupCallIn, acceptanceIn, messageIn};
-ghost use Rattle.trial.specs.Values.{mediaIn};
+ghost use Rattle.trial.specs.Values.{mediaWith, mediaIn};
+use crate::carried::media_value;
+use crate::carried::media_with;
 use frame::Acceptance;
 use frame::GroupCall;
 use frame::Media;
@@ -66,9 +68,9 @@ fn parties_and_value(kind: u32, parties: Parties, more: u32, place: usize) -> u3
     value_at(&values, place)
 }
 
-// One value of a setup request.
-fn setup_value(parties: Parties, setup: Setup, media: Media, place: usize) -> u32
-    ensures { λ r. ⌜ r ≡ getD (frameValues (SetupRequest parties setup) media) place 0 ⌝ }
+// One value of a setup request, whose media has this value.
+fn setup_value(parties: Parties, setup: Setup, media: u32, place: usize) -> u32
+    ensures { λ r. ⌜ r ≡ getD (frameValues (SetupRequest parties setup) (mediaWith media)) place 0 ⌝ }
 {
     let values = [
         1,
@@ -77,15 +79,15 @@ fn setup_value(parties: Parties, setup: Setup, media: Media, place: usize) -> u3
         parties.callee,
         setup.commencement as u32,
         setup.call_type as u32,
-        media.number,
+        media,
         setup.pck_id,
     ];
     value_at(&values, place)
 }
 
-// One value of an announcement.
-fn announcement_value(call: GroupCall, confirm: u8, media: Media, place: usize) -> u32
-    ensures { λ r. ⌜ r ≡ getD (frameValues (Announcement call confirm) media) place 0 ⌝ }
+// One value of an announcement, whose media has this value.
+fn announcement_value(call: GroupCall, confirm: u8, media: u32, place: usize) -> u32
+    ensures { λ r. ⌜ r ≡ getD (frameValues (Announcement call confirm) (mediaWith media)) place 0 ⌝ }
 {
     let values = [
         8,
@@ -93,7 +95,7 @@ fn announcement_value(call: GroupCall, confirm: u8, media: Media, place: usize) 
         call.group,
         call.call_type as u32,
         call.refresh as u32,
-        media.number,
+        media,
         call.originator,
         call.start,
         call.last_change,
@@ -121,15 +123,16 @@ fn acceptance_value(acceptance: Acceptance, place: usize) -> u32
 pub(crate) fn message_value(message: Message, media: Media, place: usize) -> u32
     ensures { λ r. ⌜ r ≡ getD (frameValues message media) place 0 ⌝ }
 {
+    let carried = media_value(media);
     match message {
-        Message::SetupRequest(parties, setup) => setup_value(parties, setup, media, place),
+        Message::SetupRequest(parties, setup) => setup_value(parties, setup, carried, place),
         Message::Ringing(parties) => parties_value(2, parties, place),
-        Message::Accept(parties) => parties_and_value(3, parties, media.number, place),
+        Message::Accept(parties) => parties_and_value(3, parties, carried, place),
         Message::Reject(parties, reason) => parties_and_value(4, parties, reason as u32, place),
         Message::Release(parties) => parties_value(5, parties, place),
         Message::ReleaseAck(parties) => parties_value(6, parties, place),
         Message::AcceptAck(parties) => parties_value(7, parties, place),
-        Message::Announcement(call, confirm) => announcement_value(call, confirm, media, place),
+        Message::Announcement(call, confirm) => announcement_value(call, confirm, carried, place),
         Message::GroupAccept(acceptance) => acceptance_value(acceptance, place),
     }
 }
@@ -207,15 +210,9 @@ pub(crate) fn media_from(kind: u32, values: &[u32]) -> Media
     ensures { λ r. ⌜ r ≡ mediaIn kind (now (values .entry)) ⌝ }
 {
     match kind {
-        1 => Media {
-            number: value_at(values, 6),
-        },
-        3 => Media {
-            number: value_at(values, 4),
-        },
-        8 => Media {
-            number: value_at(values, 5),
-        },
+        1 => media_with(value_at(values, 6)),
+        3 => media_with(value_at(values, 4)),
+        8 => media_with(value_at(values, 5)),
         _ => Media::NONE,
     }
 }

@@ -46,11 +46,14 @@ fn input(event: Event, media: Media) -> Input {
     }
 }
 
-// Writes the line at the front of the buffer, and says on standard error where the step told another length than its.
+// Writes the line at the front of the buffer, and ahead of it a complaint where the step told another length.
 fn show(out: &[u8], told: usize) {
     let length = log::first_line_length(out);
     if length != told {
-        io::write_all(STDERR_FILENO, b"vectors: a step did not send one line\n");
+        io::write_all(
+            STDOUT_FILENO,
+            b"vectors: a step told another length than that of its line\n",
+        );
     }
     if !io::write_all(STDOUT_FILENO, &out[..length]) {
         io::write_all(STDERR_FILENO, b"vectors: a line could not be written\n");

@@ -1,6 +1,6 @@
 -- `trial::values::value_at` meets its contract: what is known at each return gives the case. Assumes nothing.
 use mathlib.Core.Path.{sym}
-use Rattle.trial.proofs.Beyond.{beyond}
+use lib.ListN.{List·getD-eq-default}
 use borrow.Author.Needs.{needs}
 use Rattle.trial.proofs.values.value_at.Statement.{statement}
 use Rattle.trial.proofs.values.value_at.Tie as tie
@@ -12,4 +12,4 @@ value-at-spec =
     (λ c. search needs)
     (λ c. search needs)
     (λ c. search needs)
-    (λ c. sym (beyond (c .before .args .values .now) (c .before .args .place) (c .if1 .left))))
+    (λ c. sym (List·getD-eq-default (c .before .args .values .now) 0 {n = c .before .args .place} (c .if1 .left))))

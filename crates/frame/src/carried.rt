@@ -1,4 +1,4 @@
-// Media: its range and its digits in a line. Besides this file only those of its name in the writer and in trial know what media is made of.
+// Media: its range and its digits in a line. Only this file and its like in writer and trial know what it is made of.
 use crate::Media;
 use crate::digits::four_at;
 use crate::judge::four_fits;

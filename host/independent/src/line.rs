@@ -188,7 +188,7 @@ mod tests {
     /// Every kind's total, and its line one byte or digit short or long.
     #[test]
     fn totals_and_counts() {
-        let totals = [21, 11, 15, 12, 11, 11, 11, 31, 12];
+        let totals = [21, 11, 15, 12, 11, 11, 11, 31, 12, 31];
         for (digits, total) in samples::DIGITS.into_iter().zip(totals) {
             assert_eq!(digits.len(), 2 * total);
             assert_eq!(number_of(digits.as_bytes()), 1);
@@ -265,8 +265,8 @@ mod tests {
             Err(if number == 5 { 5 } else { 6 })
         );
         assert_eq!(out == [0xee; 70], number == 5);
-        let (fields, values) = (message.kind().fields(), message.values());
-        if fields.iter().zip(values).all(|(field, v)| field.fits(v)) {
+        let mut fields = message.kind().fields().iter().zip(message.values());
+        if fields.all(|(field, value)| field.fits(value)) {
             let line = line_of(message);
             assert_eq!(read(&line).err().unwrap_or(0), number);
             assert_eq!(out.starts_with(&line), number == 0);

@@ -3,13 +3,12 @@
 mod damage;
 mod messages;
 
-pub use damage::damage;
-pub use messages::{
-    message, message_in_range, message_outside, message_perhaps_outside, message_wide,
-    values_in_range, values_outside,
-};
+pub use self::messages::{message_perhaps_outside, message_wide};
 
-use self::damage::put_kind;
+use self::damage::{damage, put_kind};
+use self::messages::{
+    message_in_range, message_of_edges, message_outside, values_in_range, values_outside,
+};
 use crate::kind::Kind;
 use crate::line::{line_of, DIGITS, LINE_END};
 use crate::log::MOST;
@@ -23,19 +22,27 @@ const LONGEST: u64 = 5_000;
 pub fn line(random: &mut Random) -> Vec<u8> {
     match random.below(40) {
         0..=9 => good_line(random),
-        10..=17 => line_of(&message_outside(random)),
-        18..=32 => {
-            let good = good_line(random);
-            damage(random, good)
-        }
+        10..=15 => line_of(&message_outside(random)),
+        16..=17 => line_of(&message_of_edges(random)),
+        18..=32 => damaged_line(random),
         33..=38 => noise(random, 80),
         _ => noise(random, LONGEST),
     }
 }
 
 /// Makes a line that reads without refusal.
-pub fn good_line(random: &mut Random) -> Vec<u8> {
+fn good_line(random: &mut Random) -> Vec<u8> {
     line_of(&message_in_range(random))
+}
+
+/// Makes a line and damages it: a good one or, one time out of four, one with a field out of range.
+fn damaged_line(random: &mut Random) -> Vec<u8> {
+    let whole = if random.chance(4) {
+        line_of(&message_outside(random))
+    } else {
+        good_line(random)
+    };
+    damage(random, whole)
 }
 
 /// Makes a piece of digits or of any bytes, some of it with a kind in front or an end behind.
@@ -204,8 +211,9 @@ mod tests {
                 Err(number) => numbers[number as usize] += 1,
             }
         }
-        assert!(numbers.iter().all(|&n| n >= DRAWS / 20), "{numbers:?}");
-        assert!(kinds[1..].iter().all(|&n| n > DRAWS / 100), "{kinds:?}");
+        let common = |&met: &usize| met >= DRAWS / 20;
+        assert!(numbers.iter().all(common), "{numbers:?}");
+        assert!(kinds[1..].iter().all(|&met| met > DRAWS / 100), "{kinds:?}");
         assert!(long > 100);
     }
 
@@ -222,7 +230,7 @@ mod tests {
         for number in [0, 1, 2, 3, 4, 5, 10] {
             assert!(numbers[number] > DRAWS / 50, "{numbers:?}");
         }
-        assert!(winners.iter().all(|&n| n > DRAWS / 10), "{winners:?}");
+        assert!(winners.iter().all(|&met| met > DRAWS / 10), "{winners:?}");
     }
 
     /// Rivals tie on rank, and on rank and start, often enough.

@@ -103,34 +103,40 @@ impl Message {
     /// Lays the fields out in the order of the kind's table.
     pub fn values(&self) -> Values {
         match self {
-            Message::PrivateCallSetupRequest(m) => padded(&[
-                m.identifier,
-                m.caller,
-                m.callee,
-                m.commencement,
-                m.call_type,
-                m.media,
-                m.pck_id,
+            Message::PrivateCallSetupRequest(sent) => padded(&[
+                sent.identifier,
+                sent.caller,
+                sent.callee,
+                sent.commencement,
+                sent.call_type,
+                sent.media,
+                sent.pck_id,
             ]),
-            Message::Ringing(m)
-            | Message::Release(m)
-            | Message::ReleaseAck(m)
-            | Message::AcceptAck(m) => padded(&[m.identifier, m.caller, m.callee]),
-            Message::Accept(m) => padded(&[m.identifier, m.caller, m.callee, m.media]),
-            Message::Reject(m) => padded(&[m.identifier, m.caller, m.callee, m.reason]),
-            Message::GroupCallAnnouncement(m) => padded(&[
-                m.identifier,
-                m.group,
-                m.call_type,
-                m.refresh,
-                m.media,
-                m.originator,
-                m.start,
-                m.last_change,
-                m.last_changer,
-                m.confirm,
+            Message::Ringing(sent)
+            | Message::Release(sent)
+            | Message::ReleaseAck(sent)
+            | Message::AcceptAck(sent) => padded(&[sent.identifier, sent.caller, sent.callee]),
+            Message::Accept(sent) => {
+                padded(&[sent.identifier, sent.caller, sent.callee, sent.media])
+            }
+            Message::Reject(sent) => {
+                padded(&[sent.identifier, sent.caller, sent.callee, sent.reason])
+            }
+            Message::GroupCallAnnouncement(sent) => padded(&[
+                sent.identifier,
+                sent.group,
+                sent.call_type,
+                sent.refresh,
+                sent.media,
+                sent.originator,
+                sent.start,
+                sent.last_change,
+                sent.last_changer,
+                sent.confirm,
             ]),
-            Message::GroupCallAccept(m) => padded(&[m.identifier, m.sender, m.call_type, m.group]),
+            Message::GroupCallAccept(sent) => {
+                padded(&[sent.identifier, sent.sender, sent.call_type, sent.group])
+            }
         }
     }
 
@@ -276,7 +282,7 @@ mod tests {
                 met += 1;
             }
         }
-        assert_eq!(met, 41);
+        assert_eq!(met, 51);
         assert!(RANGES.iter().all(|range| !range.good.is_empty()));
     }
 }

@@ -25,9 +25,9 @@ impl Random {
         bits ^ (bits >> 31)
     }
 
-    /// Draws a number from 0 to `n` - 1, and 0 if `n` is 0.
-    pub fn below(&mut self, n: u64) -> u64 {
-        ((u128::from(self.next()) * u128::from(n)) >> 64) as u64
+    /// Draws a number from 0 to `bound` - 1, and 0 if `bound` is 0.
+    pub fn below(&mut self, bound: u64) -> u64 {
+        ((u128::from(self.next()) * u128::from(bound)) >> 64) as u64
     }
 
     /// Says yes once in `one_in` draws on average.

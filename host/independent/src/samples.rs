@@ -1,5 +1,6 @@
-//! Sample messages and ranges for the unit tests, written out by hand so that
-//! the tests do not lean on the tables they check.
+//! Sample messages, lines and ranges for the unit tests: values, digits and
+//! ranges are written out by hand, and only which field stands at which place
+//! of a message is taken from the tables.
 
 use crate::kind::Kind;
 use crate::message::{Accept, Announcement, GroupAccept, Message, Reject, SetupRequest, Users};
@@ -36,8 +37,22 @@ pub const ANNOUNCEMENT: Announcement = Announcement {
     confirm: 1,
 };
 
-/// One good message of every kind.
-pub const MESSAGES: [(Kind, Message); 9] = [
+/// An announcement whose ten values all differ, so that no two fields can be swapped unseen.
+const ALL_DIFFERENT: Announcement = Announcement {
+    identifier: 0x0a1b,
+    group: 0x1122_3344,
+    call_type: 3,
+    refresh: 0x2c3d,
+    media: 0x5566_7788,
+    originator: 0x99aa_bbcc,
+    start: 0xddee_ff00,
+    last_change: 0x0123_4567,
+    last_changer: 0x89ab_cdef,
+    confirm: 0,
+};
+
+/// One good message of every kind, and a second announcement.
+pub const MESSAGES: [(Kind, Message); 10] = [
     (
         Kind::PrivateCallSetupRequest,
         Message::PrivateCallSetupRequest(SETUP),
@@ -77,10 +92,14 @@ pub const MESSAGES: [(Kind, Message); 9] = [
             group: 0xfedc_ba98,
         }),
     ),
+    (
+        Kind::GroupCallAnnouncement,
+        Message::GroupCallAnnouncement(ALL_DIFFERENT),
+    ),
 ];
 
 /// The same messages as lines, written out digit by digit without the line end.
-pub const DIGITS: [&str; 9] = [
+pub const DIGITS: [&str; 10] = [
     "011234000000070000000900040000000500000000",
     "0212340000000700000009",
     "031234000000070000000900000006",
@@ -90,6 +109,7 @@ pub const DIGITS: [&str; 9] = [
     "0712340000000700000009",
     "0800100000000302001e0000000500000007000003e8000003e80000000701",
     "0900100000000703fedcba98",
+    "080a1b11223344032c3d5566778899aabbccddeeff000123456789abcdef00",
 ];
 
 /// Values of one field that must pass and that must not.

@@ -4,15 +4,6 @@ use crate::kind::{Field, Kind};
 use crate::message::{Message, Values, MOST_FIELDS};
 use crate::random::Random;
 
-/// Makes a message that is mostly in range and whose values always fit a line.
-pub fn message(random: &mut Random) -> Message {
-    match random.below(6) {
-        0 => message_outside(random),
-        1 => message_of_edges(random),
-        _ => message_in_range(random),
-    }
-}
-
 /// Makes a message with every field in range.
 pub fn message_in_range(random: &mut Random) -> Message {
     let kind = *random.pick(&Kind::ALL);
@@ -34,21 +25,25 @@ pub fn message_perhaps_outside(random: &mut Random) -> Message {
     }
 }
 
-/// Makes a message in range but for perhaps one field, whose value may be too wide for a line.
+/// Makes a message perhaps outside and adds, to one value, bits that are too high for its field.
 pub fn message_wide(random: &mut Random) -> Message {
-    let kind = *random.pick(&Kind::ALL);
-    let mut values = values_in_range(random, kind);
-    let place = random.below(kind.fields().len() as u64) as usize;
-    values[place] = match random.below(3) {
-        0 => random.next() as u32,
-        1 => kind.fields()[place].largest().wrapping_add(1),
-        _ => *random.pick(&edges(&kind.fields()[place])),
-    };
-    Message::from_values(kind, &values)
+    let message = message_perhaps_outside(random);
+    let fields = message.kind().fields();
+    let narrow: Vec<usize> = (0..fields.len())
+        .filter(|&place| fields[place].bytes < 4)
+        .collect();
+    let place = *random.pick(&narrow);
+    let largest = fields[place].largest();
+    let mut values = message.values();
+    values[place] |= largest + 1;
+    if random.chance(2) {
+        values[place] |= random.next() as u32 & !largest;
+    }
+    Message::from_values(message.kind(), &values)
 }
 
-/// Makes a message each of whose fields stands at some edge, in range or not.
-fn message_of_edges(random: &mut Random) -> Message {
+/// Makes a message each of whose fields stands at some edge that fits a line, in range or not.
+pub fn message_of_edges(random: &mut Random) -> Message {
     let kind = *random.pick(&Kind::ALL);
     let values = each_field(kind, |field| edge(random, field, |value| field.fits(value)));
     Message::from_values(kind, &values)
@@ -111,10 +106,12 @@ fn edge(random: &mut Random, field: &Field, wanted: impl Fn(u32) -> bool) -> u32
     *random.pick(&edges)
 }
 
-/// Lists values worth trying: small ones, close ones, and each side of every end of the range.
+/// Lists values worth trying: small ones, close ones, one digit alone at each place, and each side of
+/// every end of the range.
 fn edges(field: &Field) -> Vec<u32> {
     let largest = field.largest();
     let mut edges = vec![0, 1, 2, 0xff, 0x100, 1000, 1001, largest - 1, largest];
+    edges.extend((0..2 * field.bytes).map(|place| 1_u32 << (4 * place)));
     for &(lowest, highest) in field.allowed {
         edges.extend([lowest, highest]);
         edges.extend(lowest.checked_sub(1));
@@ -130,8 +127,17 @@ mod tests {
 
     /// Tells whether all values of a message can be put on a line.
     fn fits(message: &Message) -> bool {
-        let fields = message.kind().fields();
-        fields.iter().zip(message.values()).all(|(f, v)| f.fits(v))
+        let mut fields = message.kind().fields().iter().zip(message.values());
+        fields.all(|(field, value)| field.fits(value))
+    }
+
+    /// Gives a message with each value cut to the width of its field.
+    fn cut(message: &Message) -> Message {
+        let mut values = message.values();
+        for (value, field) in values.iter_mut().zip(message.kind().fields()) {
+            *value &= field.largest();
+        }
+        Message::from_values(message.kind(), &values)
     }
 
     /// Messages are in range, outside or too wide just as their makers promise.
@@ -139,7 +145,7 @@ mod tests {
     fn promises_of_the_makers() {
         let mut random = Random::new(3);
         let mut met = [0; 10];
-        let (mut perhaps, mut wide, mut mostly) = (0, 0, 0);
+        let (mut perhaps, mut cut_good, mut of_edges) = (0, 0, 0);
         for _ in 0..5_000 {
             let good = message_in_range(&mut random);
             met[good.kind().code() as usize] += 1;
@@ -147,16 +153,18 @@ mod tests {
             let bad = message_outside(&mut random);
             assert!(!bad.in_range() && fits(&bad));
             assert_eq!(read(&line_of(&bad)), Err(5));
-            let any = message(&mut random);
-            assert!(fits(&any));
-            mostly += u32::from(any.in_range());
+            let edged = message_of_edges(&mut random);
+            assert!(fits(&edged));
+            of_edges += u32::from(edged.in_range());
             perhaps += u32::from(message_perhaps_outside(&mut random).in_range());
-            wide += u32::from(!fits(&message_wide(&mut random)));
+            let wide = message_wide(&mut random);
+            assert!(!wide.in_range() && !fits(&wide));
+            cut_good += u32::from(cut(&wide).in_range());
         }
         assert!(met[1..].iter().all(|&count| count > 400));
         assert!((2_000..3_000).contains(&perhaps));
-        assert!((3_000..4_500).contains(&mostly));
-        assert!(wide > 500);
+        assert!((2_000..3_000).contains(&cut_good));
+        assert!((50..2_500).contains(&of_edges), "{of_edges}");
     }
 
     /// The PCK-ID meets both ends of its range and both neighbours.
@@ -165,8 +173,22 @@ mod tests {
         let mut random = Random::new(4);
         let mut missing = vec![0, 1, 0x2fff_ffff, 0x3000_0000, 0x3fff_ffff, 0x4000_0000];
         for _ in 0..20_000 {
-            if let Message::PrivateCallSetupRequest(made) = message(&mut random) {
+            let message = message_perhaps_outside(&mut random);
+            if let Message::PrivateCallSetupRequest(made) = message {
                 missing.retain(|&value| value != made.pck_id);
+            }
+        }
+        assert_eq!(missing, []);
+    }
+
+    /// A user meets a digit alone at each of its eight places.
+    #[test]
+    fn lone_digits_are_met() {
+        let mut random = Random::new(5);
+        let mut missing: Vec<u32> = (0..8).map(|place| 1 << (4 * place)).collect();
+        for _ in 0..20_000 {
+            if let Message::Ringing(made) = message_in_range(&mut random) {
+                missing.retain(|&value| value != made.caller);
             }
         }
         assert_eq!(missing, []);

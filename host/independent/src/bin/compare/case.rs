@@ -11,17 +11,21 @@ pub enum Spoil {
     Lines,
     Values,
     Pairs,
+    Numbers,
     Writings,
+    Room,
     Logs,
 }
 
 impl Spoil {
     /// Every slip under its name.
-    pub const ALL: [(&'static str, Spoil); 5] = [
+    pub const ALL: [(&'static str, Spoil); 7] = [
         ("lines", Spoil::Lines),
         ("values", Spoil::Values),
         ("pairs", Spoil::Pairs),
+        ("numbers", Spoil::Numbers),
         ("writings", Spoil::Writings),
+        ("room", Spoil::Room),
         ("logs", Spoil::Logs),
     ];
 }
@@ -180,8 +184,10 @@ mod tests {
             part: "lines",
             input: &|| named("the line", b"02\n"),
         };
-        assert!(case.same(&4, &4, |&n| words::number(n)).is_ok());
-        let difference = case.same(&4, &3, |&n| words::number(n)).unwrap_err();
+        let compare =
+            |proved, independent| case.same(&proved, &independent, |&number| words::number(number));
+        assert!(compare(4, 4).is_ok());
+        let difference = compare(4, 3).unwrap_err();
         assert_eq!(
             difference.report(7, 12),
             "DIFFERENCE in lines: seed 7, draw 12\n\
@@ -200,8 +206,8 @@ mod tests {
         };
         let compare = |proved, independent: &[u8]| {
             let independent = (3, independent.to_vec());
-            case.same_written(&(proved, b"!3\n".to_vec()), &independent, |n| {
-                format!("length {n}")
+            case.same_written(&(proved, b"!3\n".to_vec()), &independent, |length| {
+                format!("length {length}")
             })
         };
         assert!(compare(3, b"!3\n").is_ok());

@@ -13,12 +13,12 @@ pub const ROWS: &[Row] = &[
     ("log", &["empty", "ended", "unended"]),
     ("length", &["up to 65536", "over 65536"]),
     ("close", &[]),
-    ("lent", &["filled"]),
+    ("lent", &["filled", "empty", "null"]),
     ("answered", &["0", "1", "2", "3", "4", "5"]),
-    ("buffer", &["one less", "exact", "more"]),
+    ("buffer", &["empty", "shorter", "one less", "exact", "more"]),
 ];
 
-/// Every log of this number is long, since the others seldom are.
+/// One log in so many is long for sure, since the others seldom are.
 const LONG_EVERY: u64 = 100;
 
 /// The most bytes that a buffer has behind the answer.
@@ -62,13 +62,23 @@ fn made(draw: &mut Draw) -> Vec<u8> {
     log
 }
 
-/// Draws a buffer's length: that of the answer, one less, or more.
+/// Draws a buffer's length: that of the answer, one less, less than that, or more.
 fn length(draw: &mut Draw, answer: usize) -> (usize, &'static str) {
-    match draw.random.below(3) {
+    match draw.random.below(4) {
         0 if answer > 0 => (answer - 1, "one less"),
         1 => (answer + 1 + draw.random.below(MORE) as usize, "more"),
+        2 if answer > 0 => shorter(draw, answer),
         _ => (answer, "exact"),
     }
+}
+
+/// Draws a buffer's length that is shorter than an answer by more than one byte, one time out of four 0.
+fn shorter(draw: &mut Draw, answer: usize) -> (usize, &'static str) {
+    let length = draw.random.below(answer as u64 - 1) as usize;
+    if length == 0 || draw.random.chance(4) {
+        return (0, "empty");
+    }
+    (length, "shorter")
 }
 
 /// Counts what a log is like.

@@ -49,7 +49,8 @@ fn done(task: &Task) -> io::Result<bool> {
         Task::Compare(options) => return compare(options),
         Task::Answer => {
             let mut input = Vec::new();
-            let read = io::stdin().lock().read_to_end(&mut input);
+            let mut front = io::stdin().lock().take(log::MOST as u64);
+            let read = front.read_to_end(&mut input);
             read.map_err(|error| named("standard input could not be read", error))?;
             put(&log::answer_cut(&input))?;
         }
@@ -63,6 +64,7 @@ fn done(task: &Task) -> io::Result<bool> {
 fn compare(options: &Options) -> io::Result<bool> {
     say(&format!("seed {}", options.seed))?;
     let mut all_tried = true;
+    let mut compared = Vec::new();
     for (part, &count) in PARTS.iter().zip(&options.counts) {
         let tally = match part.run(options.seed, count, options.spoil) {
             Ok(tally) => tally,
@@ -72,23 +74,19 @@ fn compare(options: &Options) -> io::Result<bool> {
             }
         };
         say(&tally.table(part.name, part.measured))?;
-        let missing = tally.missing();
-        if count >= part.enough && !missing.is_empty() {
-            say(&format!(
-                "FAILED {}: not met: {}",
-                part.name,
-                missing.join(", ")
-            ))?;
+        let missing = part.missing(&tally, count).join(", ");
+        if !missing.is_empty() {
+            say(&format!("FAILED {}: not met: {missing}", part.name))?;
             all_tried = false;
         }
+        compared.push(format!("{} {}", tally.inputs(), part.name));
     }
-    let [lines, pairs, writings, logs] = options.counts;
-    let counts = format!("{lines} lines, {pairs} pairs, {writings} writings, {logs} logs");
+    let compared = compared.join(", ");
     if all_tried {
-        say(&format!("no difference: {counts}"))?;
+        say(&format!("no difference: {compared}"))?;
     } else {
         say(&format!(
-            "FAILED: no difference, but not all was tried: {counts}"
+            "FAILED: no difference, but not all was tried: {compared}"
         ))?;
     }
     Ok(all_tried)

@@ -33,14 +33,18 @@ compare [OPTIONS]: gives random inputs to the proved implementation and to an in
   --pairs N     how many pairs of lines are chosen from (2000000)
   --writings N  how many messages are written (1000000)
   --logs N      how many logs are answered (20000)
-  --spoil PART  puts a slip into the independent answers, to see that it is found; PART is one of
+  --spoil SLIP  puts a slip into the independent answers, to see that it is found; SLIP is one of
                   lines     a capital digit is taken as good
                   values    caller and callee are swapped
                   pairs     types are ranked by their code number
+                  numbers   10 goes before the number of the second line
                   writings  the buffer behind the line is cleared
+                  room      6 goes before 5
                   logs      an unended tail is not answered
 compare answer: writes the independent answer to the first 65536 bytes of standard input
 compare log SEED: writes a random log made from SEED
+A difference is shown with its draw, and as many inputs of its part show it again: --lines where it is in values, --pairs where it is in
+numbers, --writings where it is in room. A run that is killed shows no input: fewer inputs of the part behind the last one shown find it.
 Status: 0 no difference; 1 a difference, or a run of some size that did not try all it should; 2 bad usage or no way to read or write
 ";
 
@@ -97,7 +101,7 @@ fn slip(word: &str) -> Result<Spoil, String> {
     let found = Spoil::ALL.iter().find(|(name, _)| *name == word);
     match found {
         Some((_, spoil)) => Ok(*spoil),
-        None => Err(format!("--spoil needs the name of a part, not {word:?}")),
+        None => Err(format!("--spoil needs the name of a slip, not {word:?}")),
     }
 }
 
@@ -133,6 +137,18 @@ mod tests {
         assert_eq!(parsed("answer"), Ok(Task::Answer));
         assert_eq!(parsed("log 18446744073709551615"), Ok(Task::Log(u64::MAX)));
         assert_eq!(parsed("--seed x --help"), Ok(Task::Help));
+    }
+
+    /// Every slip is taken by its name, and the help names it.
+    #[test]
+    fn slips() {
+        for (name, spoil) in Spoil::ALL {
+            let Ok(Task::Compare(options)) = parsed(&format!("--spoil {name}")) else {
+                panic!("{name} is not taken");
+            };
+            assert_eq!(options.spoil, Some(spoil));
+            assert!(HELP.contains(&format!("\n                  {name:<10}")));
+        }
     }
 
     /// Every wrong call is told in one line.

@@ -54,7 +54,7 @@ pub const PARTS: [Part; COUNT] = [
         name: "logs",
         measured: "the log",
         full: 20_000,
-        enough: 200,
+        enough: 500,
         rows: logs::ROWS,
         one: logs::one,
     },
@@ -78,10 +78,38 @@ impl Part {
         Ok(tally)
     }
 
+    /// Lists the classes that a run of so many inputs should have met and has not.
+    pub fn missing(&self, tally: &Tally, count: u64) -> Vec<String> {
+        if count < self.enough {
+            return Vec::new();
+        }
+        tally.missing()
+    }
+
     /// Gives what is added to the seed, so that each part draws from a stretch of its own, whatever
     /// the other parts draw.
     fn offset(&self) -> u64 {
         let place = PARTS.iter().position(|part| part.name == self.name);
         (place.unwrap_or(0) as u64) << 62
+    }
+}
+
+#[cfg(test)]
+mod tests {
+    use super::*;
+
+    /// What was not met is missed by a run that had inputs enough to meet it, and by no other.
+    #[test]
+    fn missed_from_enough_on() {
+        for part in &PARTS {
+            let tally = Tally::new(part.rows);
+            assert!(part.missing(&tally, 0).is_empty());
+            assert!(part.missing(&tally, part.enough - 1).is_empty());
+            for count in [part.enough, part.full] {
+                let missing = part.missing(&tally, count);
+                assert!(!missing.is_empty());
+                assert_eq!(missing, tally.missing());
+            }
+        }
     }
 }

@@ -44,6 +44,11 @@ impl Tally {
         self.longest = self.longest.max(length);
     }
 
+    /// Gives how many inputs were counted.
+    pub fn inputs(&self) -> u64 {
+        self.inputs
+    }
+
     /// Counts a class in a row, which must be one of those that the table was started with.
     pub fn meet(&mut self, title: &str, class: &'static str) {
         let row = self.rows.iter_mut().find(|row| row.title == title);
@@ -103,6 +108,7 @@ mod tests {
     #[test]
     fn counted_and_missed() {
         let mut tally = Tally::new(&[("number", &["0", "10"]), ("buffer", &[])]);
+        assert_eq!(tally.inputs(), 0);
         assert_eq!(tally.table("pairs", "both"), "pairs: 0");
         assert_eq!(tally.missing(), ["number 0", "number 10"]);
         tally.input(3);
@@ -111,6 +117,7 @@ mod tests {
         tally.meet_number("number", 10);
         tally.meet_number("number", 7);
         tally.meet("buffer", "exact");
+        assert_eq!(tally.inputs(), 2);
         assert_eq!(tally.missing(), ["number 0"]);
         assert_eq!(
             tally.table("pairs", "both"),

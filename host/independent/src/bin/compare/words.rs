@@ -1,7 +1,7 @@
 //! Inputs and answers in words, for whoever has to look at a difference.
 
 /// Gives bytes as text, with \xNN for each byte that is not printable ASCII and for the backslash.
-pub fn text(bytes: &[u8]) -> String {
+fn text(bytes: &[u8]) -> String {
     let mut text = String::with_capacity(bytes.len());
     for &byte in bytes {
         match byte {

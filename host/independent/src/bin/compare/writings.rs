@@ -6,7 +6,7 @@ use crate::proved;
 use crate::tally::{Row, Tally};
 use crate::words;
 use independent::kind::Kind;
-use independent::line::{write, NO_KIND};
+use independent::line::{write, NO_KIND, SHORT_BUFFER};
 use independent::making;
 use independent::message::{Message, MOST_FIELDS};
 use independent::random::Random;
@@ -17,7 +17,15 @@ pub const ROWS: &[Row] = &[
     ("written", &["1", "2", "3", "4", "5", "6", "7", "8", "9"]),
     (
         "values",
-        &["whole", "cut short", "no kind", "empty", "null"],
+        &[
+            "whole",
+            "wide",
+            "too many",
+            "cut short",
+            "no kind",
+            "empty",
+            "null",
+        ],
     ),
     (
         "buffer",
@@ -27,13 +35,13 @@ pub const ROWS: &[Row] = &[
     ),
 ];
 
-/// The longest buffer lent, but for one that is a byte longer than its line.
+/// The longest buffer lent.
 const LONGEST: u64 = 80;
 
 /// Makes values and a buffer, and compares what the two implementations write into it.
 pub fn one(draw: &mut Draw, tally: &mut Tally) -> Result<(), Difference> {
-    let message = making::message_perhaps_outside(&mut draw.random);
-    let (values, sort) = values_of(&mut draw.random, &message);
+    let (message, sort) = message(&mut draw.random);
+    let (values, sort) = values_of(&mut draw.random, &message, sort);
     let line = 2 * message.kind().total() + 1;
     let length = length(&mut draw.random, line);
     let before = draw.bytes(length);
@@ -50,7 +58,7 @@ pub fn one(draw: &mut Draw, tally: &mut Tally) -> Result<(), Difference> {
             [values, named("the buffer before", &before)].join("\n")
         },
     };
-    let independent = independent(&values, &before, draw.spoilt(Spoil::Writings));
+    let independent = independent(&values, &before, draw);
     tally.meet_number("number", independent.0);
     if independent.0 == 0 {
         tally.meet_number("written", values[0]);
@@ -59,17 +67,38 @@ pub fn one(draw: &mut Draw, tally: &mut Tally) -> Result<(), Difference> {
     case.unharmed(&lent, "the values")?;
     case.unharmed_around(&buffer, "the buffer")?;
     let proved = (number, buffer.inside().to_vec());
+    // Another number is told as a difference in `room`, only another buffer as one in `writings`.
+    let part = if proved.0 == independent.0 {
+        "writings"
+    } else {
+        "room"
+    };
+    let case = Case { part, ..case };
     case.same_written(&proved, &independent, |&number| words::number(number))
 }
 
-/// Lays a message out as values, now and then without a kind or without some of the last, and says so.
-fn values_of(random: &mut Random, message: &Message) -> (Vec<u32>, Option<&'static str>) {
+/// Makes a message, now and then with a value that is wider than its field, and says so.
+fn message(random: &mut Random) -> (Message, &'static str) {
+    if random.chance(8) {
+        (making::message_wide(random), "wide")
+    } else {
+        (making::message_perhaps_outside(random), "whole")
+    }
+}
+
+/// Lays a message out as values, now and then without a kind, without some of the last or with more
+/// than there are fields, and says so.
+fn values_of(
+    random: &mut Random,
+    message: &Message,
+    sort: &'static str,
+) -> (Vec<u32>, Option<&'static str>) {
     let fields = message.kind().fields().len();
     let mut values = vec![message.kind().code()];
     values.extend_from_slice(&message.values()[..fields]);
     let sort = match random.below(40) {
         0 => {
-            values[0] = *random.pick(&[0, 10, 255]);
+            values[0] = *random.pick(&[0, 10, 255, 256, 257, u32::MAX]);
             Some("no kind")
         }
         1 => {
@@ -80,7 +109,14 @@ fn values_of(random: &mut Random, message: &Message) -> (Vec<u32>, Option<&'stat
             values.truncate(1 + random.below(fields as u64) as usize);
             Some("cut short")
         }
-        _ => Some("whole"),
+        5..=7 => {
+            values.push(random.next() as u32);
+            if random.chance(2) {
+                values.push(random.next() as u32);
+            }
+            Some("too many")
+        }
+        _ => Some(sort),
     };
     (values, sort)
 }
@@ -108,20 +144,26 @@ fn room(length: usize, line: usize) -> &'static str {
     }
 }
 
-/// Gives the independent number and the buffer afterwards; a slip clears the buffer behind the line.
-fn independent(values: &[u32], before: &[u8], slip: bool) -> (u32, Vec<u8>) {
+/// Gives the independent number and the buffer afterwards, by three rules of the entry's own as well:
+/// 3 where there is no kind, 0 for a value that is not there, and a value is cut to its field's width.
+fn independent(values: &[u32], before: &[u8], draw: &Draw) -> (u32, Vec<u8>) {
     let mut buffer = before.to_vec();
     let kind = values.first().and_then(|&code| Kind::of_code(code));
     let Some(kind) = kind else {
         return (NO_KIND, buffer);
     };
-    let mut fields = [0; MOST_FIELDS];
-    for (field, &value) in fields.iter_mut().zip(&values[1..]) {
-        *field = value;
+    // A slip lets 6 go before 5.
+    if draw.spoilt(Spoil::Room) && buffer.len() < 2 * kind.total() + 1 {
+        return (SHORT_BUFFER, buffer);
     }
-    match write(&Message::from_values(kind, &fields), &mut buffer) {
+    let mut cut = [0; MOST_FIELDS];
+    for ((place, field), &value) in cut.iter_mut().zip(kind.fields()).zip(&values[1..]) {
+        *place = value & field.largest();
+    }
+    match write(&Message::from_values(kind, &cut), &mut buffer) {
         Ok(length) => {
-            if slip {
+            // A slip clears the buffer behind the line.
+            if draw.spoilt(Spoil::Writings) {
                 buffer[length..].fill(0);
             }
             (0, buffer)

@@ -1,3 +1,4 @@
+# shellcheck shell=bash
 # For the tests of host/tests/, which read this file: how a case is told.
 # Each case prints one line, 'ok NAME' or 'FAILED NAME: what is wrong'; `exit $status` at a test's end is not 0 where one failed.
 status=0
@@ -10,4 +11,22 @@ verdict() {
         echo "FAILED $1:" "$2"
         status=1
     fi
+}
+
+# One case of a test with a folder $room: a run that ended with the status of the second word was to end with that of the third (0 where
+# there is none), to write, which is in $room/wrote, just what $room/wanted has, and to say on standard error, which is in $room/said, just
+# the fourth word (nothing where there is none).
+judge() {
+    local wrong=''
+    [ "$2" -eq "${3-0}" ] || wrong="status $2"
+    cmp -s "$room/wrote" "$room/wanted" || wrong="$wrong $(cmp "$room/wrote" "$room/wanted" 2>&1 | sed "s|$room/||g")"
+    [ "$(cat "$room/said")" = "${4-}" ] || wrong="$wrong said: $(head -n 1 "$room/said")"
+    verdict "$1" "$wrong"
+}
+
+# One case: a refusal, the run that ended with the status of the second word: it was to end with 2, to write nothing, and to say just the
+# third word.
+judge_refusal() {
+    : >"$room/wanted"
+    judge "$1" "$2" 2 "$3"
 }

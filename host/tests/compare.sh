@@ -154,15 +154,12 @@ verdict "the program lines answers random logs as the independent implementation
 
 # ---- bad usage
 
-# One case: the program, given the words from the third on, must end with status 2, print nothing, and say just the second word.
+# One case: the program, given the words from the third on, must refuse them, and say just the second word.
 refuses() {
-    local name=$1 line=$2 wrong=''
+    local name=$1 line=$2
     shift 2
     run "$@"
-    [ $ended -eq 2 ] || wrong="status $ended"
-    [ ! -s "$room/wrote" ] || wrong="$wrong printed: $(head -n 1 "$room/wrote")"
-    [ "$(cat "$room/said")" = "compare: $line" ] || wrong="$wrong said: $(head -n 1 "$room/said")"
-    verdict "$name" "$wrong"
+    judge_refusal "$name" $ended "compare: $line"
 }
 refuses "an option that there is not is named" 'no such option: "--line"; --help lists them' --line 5
 refuses "a seed that is no number is named" '--seed needs a number from 0 to 18446744073709551615, not "one"' --seed one

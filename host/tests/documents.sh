@@ -80,8 +80,8 @@ for page in README.md docs/*.md; do
 done
 verdict "every link of README.md and docs/ leads somewhere" "$wrong"
 
-wrong=$(find crates -name '*.rt' -o -name '*.antt' | xargs wc -l | awk '$2 != "total" && $1 >= 300 { print $2 }')
-verdict "no file of Rattle or antt has 300 lines" "$wrong"
+wrong=$(find crates host -type f | grep -E '\.(rt|antt|c|h|rs|sh)$' | xargs wc -l | awk '$2 != "total" && $1 >= 300 { print $2 }')
+verdict "no source file has 300 lines" "$wrong"
 
 wrong=$(rt fmt --check >/dev/null 2>&1 || echo "run rt fmt")
 verdict "the sources are in rt fmt's layout" "$wrong"

@@ -13,16 +13,6 @@ sanitized='-g -fsanitize=address,undefined -fno-sanitize-recover=all'
 # what valgrind ends with where it finds something, which nothing here ends with of itself
 found=99
 
-# One case: a run that ended with the status of the second word was to end with the third, to write just what the file of the fourth word
-# has, which is held against $room/wrote, and to say just the fifth word on standard error, held against $room/said.
-judge() {
-    local wrong=''
-    [ "$2" -eq "$3" ] || wrong="status $2"
-    cmp -s "$room/wrote" "$4" || wrong="$wrong $(diff "$room/wrote" "$4" | head -n 3 | tr '\n' ' ')"
-    [ "$(cat "$room/said")" = "${5-}" ] || wrong="$wrong said: $(head -n 1 "$room/said")"
-    verdict "$1" "$wrong"
-}
-
 # ---- header, archive, shell
 
 # Built ahead of the case, so that it does not see it being proved.
@@ -30,13 +20,12 @@ bash host/panel.sh >/dev/null 2>&1
 CFLAGS='-Werror' bash host/panel.sh >"$room/wrote" 2>"$room/said"
 ended=$?
 printf '%s\n' target/panel/panel.h target/panel/libpanel.a target/panel/panel-shell >"$room/wanted"
-judge "one command builds header, archive and shell, without a warning" $ended 0 "$room/wanted"
+judge "one command builds header, archive and shell, without a warning" $ended
 # Without them there is nothing to try.
 [ $status -eq 0 ] || exit $status
 
-: >"$room/wanted"
 CC=no-such-compiler bash host/panel.sh >"$room/wrote" 2>"$room/said"
-judge "a compiler that is not there is named" $? 2 "$room/wanted" "panel: no C compiler: no-such-compiler"
+judge_refusal "a compiler that is not there is named" $? "panel: no C compiler: no-such-compiler"
 
 # shellcheck disable=SC2086
 wrong=$(echo '#include "panel.h"' | gcc -x c -std=c99 $warnings -Wmissing-prototypes -fsyntax-only -I target/panel - 2>&1 | head -n 1)
@@ -55,13 +44,13 @@ declared | sort >"$room/wanted"
 grep -E '^[a-z].*\);$' $header | sort >"$room/wrote"
 : >"$room/said"
 [ "$(grep -c '^pub extern "C" fn ' crates/panel/src/lib.rt)" -eq "$(wc -l <"$room/wanted")" ] || echo "an entry of the crate was not understood" >"$room/said"
-judge "the header declares the entries of the crate, as they are" 0 0 "$room/wanted"
+judge "the header declares the entries of the crate, as they are" 0
 
 # Whatever the archive has but code and constants of its own.
 nm target/panel/libpanel.a | sed -n 's/^[0-9a-f ]* \([^rt]\) \(.*\)$/\1 \2/p' | sort >"$room/wrote"
 sed -n 's/^pub extern "C" fn \([a-z0-9_]*\).*/T \1/p' crates/panel/src/lib.rt | sort >"$room/wanted"
 : >"$room/said"
-judge "the archive has those entries, keeps no state and needs nothing else" 0 0 "$room/wanted"
+judge "the archive has those entries, keeps no state and needs nothing else" 0
 
 # ---- the entries
 
@@ -79,7 +68,7 @@ verdict "the cases of the entries end with a pass" "$([ $ended -eq 0 ] || echo "
 
 "$room/entries" >"$room/wanted"
 valgrind -q --leak-check=full --error-exitcode=$found "$room/entries" >"$room/wrote" 2>"$room/said"
-judge "the entries read no byte beside a line: valgrind finds nothing" $? 0 "$room/wanted"
+judge "the entries read no byte beside a line: valgrind finds nothing" $?
 
 # The same cases with a length that is one too large, which valgrind must find.
 sed 's|answers = ask(one, first.length,|answers = ask(one, first.length + 1U,|' host/tests/panel_entries.c >"$room/too_long.c"
@@ -90,7 +79,7 @@ verdict "valgrind would find a byte read too many" "$([ $ended -eq $found ] || e
 
 # shellcheck disable=SC2086
 compile_entries "$room/sanitized" $sanitized && "$room/sanitized" >"$room/wrote" 2>"$room/said"
-judge "the code that calls the entries, under the address and undefined behaviour sanitizers" $? 0 "$room/wanted"
+judge "the code that calls the entries, under the address and undefined behaviour sanitizers" $?
 
 # shellcheck disable=SC2086
 gcc -std=c99 -O2 $warnings -I target/panel -o "$room/stack" host/tests/panel_stack.c target/panel/libpanel.a
@@ -102,19 +91,20 @@ verdict "no entry takes the 512 bytes of stack that panel.h names" "$([ "${most:
 sample=samples/announcements.log
 shown=samples/announcements.shown
 
+cp $shown "$room/wanted"
 $shell $sample >"$room/wrote" 2>"$room/said"
-judge "the shell shows what each announcement is and which call wins" $? 0 $shown
+judge "the shell shows what each announcement is and which call wins" $?
 
 $shell - <$sample >"$room/wrote" 2>"$room/said"
-judge "the shell takes standard input as it takes a file" $? 0 $shown
+judge "the shell takes standard input as it takes a file" $?
 
 valgrind -q --leak-check=full --error-exitcode=$found $shell $sample >"$room/wrote" 2>"$room/said"
-judge "the shell under valgrind" $? 0 $shown
+judge "the shell under valgrind" $?
 
 # shellcheck disable=SC2086
 gcc -std=c99 $warnings $sanitized -I target/panel -I host/shell -o "$room/shell" host/shell/*.c target/panel/libpanel.a &&
     "$room/shell" $sample >"$room/wrote" 2>"$room/said"
-judge "the shell under the address and undefined behaviour sanitizers" $? 0 $shown
+judge "the shell under the address and undefined behaviour sanitizers" $?
 
 # What the shell says of each line, in the words of the program lines: `!` and a number, or the line itself, which it does not show.
 verdicts() { sed -n 's/^[0-9]*: refused (\([0-9]*\)).*/!\1/p; s/^[0-9]*: \(readable\|announcement\).*/good/p' "$1"; }
@@ -122,11 +112,11 @@ verdicts() { sed -n 's/^[0-9]*: refused (\([0-9]*\)).*/!\1/p; s/^[0-9]*: \(reada
 ended=$?
 verdicts "$room/shown" >"$room/wrote"
 sed 's/^[^!].*/good/' crates/lines/stdout >"$room/wanted"
-judge "the shell refuses what the program lines refuses, by the same number" $ended 0 "$room/wanted"
+judge "the shell refuses what the program lines refuses, by the same number" $ended
 
 echo 'no call' >"$room/wanted"
 $shell </dev/null >"$room/wrote" 2>"$room/said"
-judge "no input is no call" $? 0 "$room/wanted"
+judge "no input is no call" $?
 
 # ---- the ends of what the shell reads
 
@@ -135,34 +125,34 @@ yes 0212340000000700000009 | head -c 65536 >"$room/full"
 seq -f '%.0f: readable, and no announcement' 2849 >"$room/wanted"
 printf '%s\n' '2850: refused (1): it does not end in a line end' 'no call' >>"$room/wanted"
 $shell "$room/full" >"$room/wrote" 2>"$room/said"
-judge "65,536 bytes are heard, and nothing is said of more" $? 0 "$room/wanted"
+judge "65,536 bytes are heard, and nothing is said of more" $?
 
 { cat "$room/full" && printf x; } >"$room/long"
 $shell "$room/long" >"$room/wrote" 2>"$room/said"
-judge "a byte more is named and not heard" $? 0 "$room/wanted" "panel-shell: $room/long: only its first 65536 bytes are heard"
+judge "a byte more is named and not heard" $? 0 "panel-shell: $room/long: only its first 65536 bytes are heard"
 
 $shell <"$room/long" >"$room/wrote" 2>"$room/said"
-judge "a byte more is named of standard input too" $? 0 "$room/wanted" "panel-shell: standard input: only its first 65536 bytes are heard"
+judge "a byte more is named of standard input too" $? 0 "panel-shell: standard input: only its first 65536 bytes are heard"
 
 : >"$room/wanted"
 : >"$room/wrote"
 $shell $sample >/dev/full 2>"$room/said"
-judge "an answer that cannot be written is named" $? 1 "$room/wanted" "panel-shell: the answer could not be written"
+judge "an answer that cannot be written is named" $? 1 "panel-shell: the answer could not be written"
 
 $shell --help >/dev/full 2>"$room/said"
-judge "help that cannot be written is named" $? 1 "$room/wanted" "panel-shell: the answer could not be written"
+judge "help that cannot be written is named" $? 1 "panel-shell: the answer could not be written"
 
 $shell "$room/none" >"$room/wrote" 2>"$room/said"
-judge "a log that is not there is named" $? 2 "$room/wanted" "panel-shell: $room/none: cannot be opened"
+judge_refusal "a log that is not there is named" $? "panel-shell: $room/none: cannot be opened"
 
 $shell "$room" >"$room/wrote" 2>"$room/said"
-judge "a folder is no log" $? 2 "$room/wanted" "panel-shell: $room: cannot be read"
+judge_refusal "a folder is no log" $? "panel-shell: $room: cannot be read"
 
 $shell <"$room" >"$room/wrote" 2>"$room/said"
-judge "a folder is no standard input" $? 2 "$room/wanted" "panel-shell: standard input: cannot be read"
+judge_refusal "a folder is no standard input" $? "panel-shell: standard input: cannot be read"
 
 $shell $sample $sample >"$room/wrote" 2>"$room/said"
-judge "two logs are one too many" $? 2 "$room/wanted" "panel-shell: usage: panel-shell [LOG]"
+judge_refusal "two logs are one too many" $? "panel-shell: usage: panel-shell [LOG]"
 
 $shell --help >"$room/wrote" 2>"$room/said"
 verdict "--help says how to call the shell" "$(grep -q '^panel-shell \[LOG\]: ' "$room/wrote" || echo "printed: $(head -n 1 "$room/wrote")")"
@@ -175,7 +165,7 @@ for byte in 'ahead[0]' 'ahead[LENT_GUARD - 1U]' 'behind[0]' 'behind[LENT_GUARD -
         "$room/spoilt" $sample >"$room/shown" 2>"$room/said"
     ended=$?
     head -n 1 "$room/shown" >"$room/wrote"
-    judge "a change of the guard at $byte is told" $ended 3 "$room/wanted" "panel-shell: memory beside the buffer was changed at line 1"
+    judge "a change of the guard at $byte is told" $ended 3 "panel-shell: memory beside the buffer was changed at line 1"
 done
 
 # ---- a newcomer's program
@@ -186,7 +176,7 @@ sed -n 's|^/\* prints: \(.*\) \*/$|\1|p' "$room/mine.c" >"$room/wanted"
 command=$(sed -n 's/^    \(cc .* mine\.c .*\)$/\1/p' README.md)
 ln -s "$(pwd -P)/target" "$room/target"
 (cd "$room" && eval "${command:-false}" && ./mine) >"$room/wrote" 2>"$room/said"
-judge "the program in README.md compiles by the command that stands there, and prints what it says" $? 0 "$room/wanted"
+judge "the program in README.md compiles by the command that stands there, and prints what it says" $?
 
 # shellcheck disable=SC2086
 gcc -std=c99 $warnings -fsyntax-only -I target/panel "$room/mine.c" >"$room/wrote" 2>&1
@@ -195,6 +185,6 @@ verdict "the program in README.md has no warning" "$(head -n 1 "$room/wrote")"
 # shellcheck disable=SC2086
 g++ -x c++ $warnings -I target/panel -o "$room/mine" "$room/mine.c" -x none target/panel/libpanel.a 2>"$room/said" &&
     "$room/mine" >"$room/wrote" 2>>"$room/said"
-judge "the same program is good C++, and links" $? 0 "$room/wanted"
+judge "the same program is good C++, and links" $?
 
 exit $status

@@ -41,21 +41,9 @@ fn two_bytes_at(values: &[u32], place: usize) -> u16
     (value_at(values, place) % 65536) as u16
 }
 
-// One value of a frame with nothing but its kind and the fields of a private call.
-fn parties_value(kind: u32, parties: Parties, place: usize) -> u32
-    ensures { λ r. ⌜ r ≡ getD (kind ∷ partiesThen parties []) place 0 ⌝ }
-{
-    let values = [
-        kind,
-        parties.identifier as u32,
-        parties.caller,
-        parties.callee,
-    ];
-    value_at(&values, place)
-}
-
-// One value of a frame with a private call and one number more: an accept's media, a reject's reason.
-fn parties_and_value(kind: u32, parties: Parties, more: u32, place: usize) -> u32
+// One value of a frame with a private call and one number more: an accept's media, a reject's reason; 0 where there is
+// none.
+fn parties_value(kind: u32, parties: Parties, more: u32, place: usize) -> u32
     ensures { λ r. ⌜ r ≡ getD (kind ∷ partiesThen parties (more ∷ [])) place 0 ⌝ }
 {
     let values = [
@@ -126,12 +114,12 @@ pub(crate) fn message_value(message: Message, media: Media, place: usize) -> u32
     let carried = media_value(media);
     match message {
         Message::SetupRequest(parties, setup) => setup_value(parties, setup, carried, place),
-        Message::Ringing(parties) => parties_value(2, parties, place),
-        Message::Accept(parties) => parties_and_value(3, parties, carried, place),
-        Message::Reject(parties, reason) => parties_and_value(4, parties, reason as u32, place),
-        Message::Release(parties) => parties_value(5, parties, place),
-        Message::ReleaseAck(parties) => parties_value(6, parties, place),
-        Message::AcceptAck(parties) => parties_value(7, parties, place),
+        Message::Ringing(parties) => parties_value(2, parties, 0, place),
+        Message::Accept(parties) => parties_value(3, parties, carried, place),
+        Message::Reject(parties, reason) => parties_value(4, parties, reason as u32, place),
+        Message::Release(parties) => parties_value(5, parties, 0, place),
+        Message::ReleaseAck(parties) => parties_value(6, parties, 0, place),
+        Message::AcceptAck(parties) => parties_value(7, parties, 0, place),
         Message::Announcement(call, confirm) => announcement_value(call, confirm, carried, place),
         Message::GroupAccept(acceptance) => acceptance_value(acceptance, place),
     }

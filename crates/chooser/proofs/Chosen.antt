@@ -8,9 +8,9 @@ use native.Mathlib.Omega.{arith}
 use lib.Dec.{eqb}
 use denote.Ref.{RefT}
 use borrow.Author.Tests.{eqb-true, eqb-false, eq-eqb, ne-eqb}
-use Rattle.frame.specs.Line.{lineNumber}
 use Rattle.frame.specs.declared.GroupCall.{GroupCall}
-use Rattle.frame.proofs.LineNumbers.{line-number-at-most}
+use Rattle.reader.specs.Line.{lineNumber}
+use Rattle.reader.proofs.LineNumbers.{line-number-at-most}
 use Rattle.group_order.specs.Order.{isBetter}
 use Rattle.group_order.proofs.Order.{one-of-two, either-way}
 use Rattle.chooser.specs.Choice.{lineAnnounced, choosable, linesChoosable, choiceBetween, choiceOf, numberBetween, choiceNumber, place, placeOf}

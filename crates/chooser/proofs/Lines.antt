@@ -6,13 +6,13 @@ use mathlib.Core.List.{List}
 use mathlib.Core.Bool.{Bool, true, false, not, _&&_, true≢false}
 use lib.Dec.{eqb}
 use borrow.Author.Tests.{eqb-true, eqb-false, eq-eqb, ne-eqb}
-use Rattle.frame.specs.Line.{numberOf, lineNumber, lineMessage}
 use Rattle.frame.specs.declared.GroupCall.{GroupCall}
 use Rattle.frame.specs.declared.Message.{Message}
 use Rattle.frame.specs.declared.Message.the-variants.{SetupRequest, Ringing, Accept, Reject, Release, ReleaseAck, AcceptAck, Announcement, GroupAccept}
-use Rattle.frame.specs.declared.Read.{Read}
-use Rattle.frame.specs.declared.Read.the-variants.{Readable, Refused}
-use Rattle.frame.proofs.OnlyLine.{number-read}
+use Rattle.reader.specs.Line.{numberOf, lineNumber, lineMessage}
+use Rattle.reader.specs.declared.Read.{Read}
+use Rattle.reader.specs.declared.Read.the-variants.{Readable, Refused}
+use Rattle.reader.proofs.OnlyLine.{number-read}
 use Rattle.chooser.specs.Choice.{announcedBy, announcedIn, lineAnnounced, callsChoosable, choosable, linesChoosable}
 use Rattle.chooser.specs.NoChoice.{Announces, NoAnnouncement, Apart, NoChoice}
 use Rattle.chooser.specs.declared.LineCall.{LineCall}

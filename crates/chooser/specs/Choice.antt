@@ -5,12 +5,12 @@ use mathlib.Core.Bool.{Bool, false, not, cond, _&&_}
 use lib.Dec.{eqb}
 use denote.Ref.{RefT}
 use Rattle.frame.specs.Number.{firstGiven}
-use Rattle.frame.specs.Line.{lineNumber, lineMessage}
 use Rattle.frame.specs.declared.GroupCall.{GroupCall}
 use Rattle.frame.specs.declared.Message.{Message}
 use Rattle.frame.specs.declared.Message.the-variants.{SetupRequest, Ringing, Accept, Reject, Release, ReleaseAck, AcceptAck, Announcement, GroupAccept}
-use Rattle.frame.specs.declared.Read.{Read}
-use Rattle.frame.specs.declared.Read.the-variants.{Readable, Refused}
+use Rattle.reader.specs.Line.{lineNumber, lineMessage}
+use Rattle.reader.specs.declared.Read.{Read}
+use Rattle.reader.specs.declared.Read.the-variants.{Readable, Refused}
 use Rattle.group_order.specs.Order.{isBetter}
 use Rattle.chooser.specs.declared.LineCall.{LineCall}
 use Rattle.chooser.specs.declared.LineCall.the-variants.{Call, Nothing}

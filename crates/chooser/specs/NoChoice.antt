@@ -3,10 +3,10 @@ use Prim.Native.Nat.{ℕ}
 use mathlib.Core.Path.{_≡_}
 use mathlib.Core.Logic.{_⊎_}
 use mathlib.Core.List.{List}
-use Rattle.frame.specs.Line.{lineMessage}
 use Rattle.frame.specs.declared.GroupCall.{GroupCall}
 use Rattle.frame.specs.declared.Message.the-variants.{Announcement}
-use Rattle.frame.specs.declared.Read.the-variants.{Readable}
+use Rattle.reader.specs.Line.{lineMessage}
+use Rattle.reader.specs.declared.Read.the-variants.{Readable}
 
 -- the line reads as the announcement of a call
 abbrev pub Announces : List ℕ → GroupCall → Type 0

@@ -4,7 +4,7 @@ ghost use Rattle.chooser.specs.Choice.{announcedBy, lineAnnounced, calls
 ghost use Rattle.chooser.specs.Choice.{place, placeOf};
 use frame::GroupCall;
 use frame::Message;
-use frame::Read;
+use reader::Read;
 
 // What a line announces: a group call, or nothing.
 enum LineCall {
@@ -33,7 +33,7 @@ fn announced_by(message: Message) -> LineCall
 fn line_announced(line: &[u8]) -> LineCall
     ensures { λ r. ⌜ r ≡ lineAnnounced (now (line .entry)) ⌝ }
 {
-    let reading = frame::read_line(line);
+    let reading = reader::read_line(line);
     let read = reading.read;
     match read {
         Read::Readable(message) => announced_by(message),
@@ -76,11 +76,11 @@ pub fn choice(first: &[u8], second: &[u8]) -> u8
 pub fn choose_number(first: &[u8], second: &[u8]) -> u8
     ensures { λ r. ⌜ r ≡ choiceNumber (now (first .entry)) (now (second .entry)) ⌝ }
 {
-    let number = frame::check_line(first);
+    let number = reader::check_line(first);
     if number != 0 {
         return number;
     }
-    let next = frame::check_line(second);
+    let next = reader::check_line(second);
     if next != 0 {
         return next;
     }

@@ -8,8 +8,8 @@ use native.Mathlib.Omega.{arith}
 use lib.Dec.{eqb}
 use borrow.Author.Tests.{not-true}
 use Rattle.frame.specs.Number.{firstGiven}
-use Rattle.frame.specs.Line.{lineNumber}
-use Rattle.frame.proofs.LineNumbers.{line-number-at-most}
+use Rattle.reader.specs.Line.{lineNumber}
+use Rattle.reader.proofs.LineNumbers.{line-number-at-most}
 use Rattle.chooser.specs.Choice.{linesChoosable, numberBetween, choiceNumber}
 use Rattle.chooser.specs.NoChoice.{NoChoice}
 use Rattle.chooser.proofs.Lines.{no-choice}

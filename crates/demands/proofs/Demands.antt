@@ -1,8 +1,8 @@
 -- The three demands hold. Assumes nothing.
 use mathlib.Core.Path.{sym, ap, _∙_, subst}
-use Rattle.frame.specs.Line.{readLine}
-use Rattle.frame.proofs.ReadsItsLine.{reads-its-line}
-use Rattle.frame.proofs.OnlyLine.{line-is-the-only-one}
+use Rattle.reader.specs.Line.{readLine}
+use Rattle.reader.proofs.ReadsItsLine.{reads-its-line}
+use Rattle.reader.proofs.OnlyLine.{line-is-the-only-one}
 use Rattle.group_call.specs.Hearing.{Build, promised}
 use Rattle.demands.specs.Machines.{privateMachine, groupMachine}
 use Rattle.demands.specs.Consequences.{lastPrivateRow, lastGroupRow}

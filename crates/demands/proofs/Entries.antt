@@ -1,10 +1,10 @@
 -- What C is told is what Rattle is told: the reader's number, the chooser's line and its number. Assumes nothing.
 use mathlib.Core.Path.{_≡_, sym, ap, ap₂, _∙_}
 use contract.Lifetimes as Lifetimes
-use Rattle.frame.specs.Line.{numberOf}
-use Rattle.frame.specs.declared.Reading.{Reading}
-use Rattle.frame.proofs.OnlyLine.{number-read}
-use Rattle.frame.proofs.read_line.Reads as read-line
+use Rattle.reader.specs.Line.{numberOf}
+use Rattle.reader.specs.declared.Reading.{Reading}
+use Rattle.reader.proofs.OnlyLine.{number-read}
+use Rattle.reader.proofs.read_line.Reads as read-line
 use Rattle.chooser.specs.Choice.{choiceOf, place, placeOf}
 use Rattle.chooser.proofs.choose_number.Reads as choose-number
 use Rattle.chooser.proofs.choose.Reads as choose

@@ -14,11 +14,11 @@ use Rattle.frame.specs.Digits.{isDigit, allDigits}
 use Rattle.frame.specs.Range.{within}
 use Rattle.frame.specs.Frame.{inRange}
 use Rattle.frame.specs.Layout.{digitsOf, lineOf}
-use Rattle.frame.specs.Line.{count, kindAt, unended, undigital, unkind, misfit, unranged, refusalOf, numberOf, readLine, lineNumber}
 use Rattle.frame.specs.declared.Media.{Media}
 use Rattle.frame.specs.declared.Message.{Message}
-use Rattle.frame.proofs.Judged.{not-all}
-use Rattle.frame.proofs.OnlyLine.{number-read}
+use Rattle.reader.specs.Line.{count, kindAt, unended, undigital, unkind, misfit, unranged, refusalOf, numberOf, readLine, lineNumber}
+use Rattle.reader.proofs.Judged.{not-all}
+use Rattle.reader.proofs.OnlyLine.{number-read}
 use Rattle.writer.specs.Writing.{writeNumber, writtenOf}
 use Rattle.log.specs.Answer.{answerOf, answerNumber, answerTold}
 use Rattle.call.specs.Settings.{settingsGood}

@@ -8,16 +8,16 @@ use native.Mathlib.Omega.{arith}
 use lib.Dec.{eqb}
 use borrow.Author.Tests.{eq-eqb, eqb-true, le-ltb}
 use Rattle.frame.specs.Frame.{inRange}
-use Rattle.frame.specs.Line.{numberOf, reading, readLine}
 use Rattle.frame.specs.declared.Media.{Media}
 use Rattle.frame.specs.declared.GroupCall.{GroupCall}
 use Rattle.frame.specs.declared.Message.{Message}
 use Rattle.frame.specs.declared.Message.the-variants.{SetupRequest, Ringing, Accept, Reject, Release, ReleaseAck, AcceptAck, Announcement, GroupAccept}
-use Rattle.frame.specs.declared.Read.{Read}
-use Rattle.frame.specs.declared.Read.the-variants.{Readable, Refused}
-use Rattle.frame.specs.declared.Reading.{Reading}
-use Rattle.frame.proofs.OnlyLine.{line-is-the-only-one, number-read}
-use Rattle.frame.proofs.LineNumbers.{read-number}
+use Rattle.reader.specs.Line.{numberOf, reading, readLine}
+use Rattle.reader.specs.declared.Read.{Read}
+use Rattle.reader.specs.declared.Read.the-variants.{Readable, Refused}
+use Rattle.reader.specs.declared.Reading.{Reading}
+use Rattle.reader.proofs.OnlyLine.{line-is-the-only-one, number-read}
+use Rattle.reader.proofs.LineNumbers.{read-number}
 use Rattle.call.specs.Settings.{settingsGood}
 use Rattle.call.specs.declared.Settings.{Settings}
 use Rattle.call.specs.declared.Event.{Event}

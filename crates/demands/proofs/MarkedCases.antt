@@ -11,9 +11,9 @@ use Rattle.frame.specs.Number.{firstGiven}
 use Rattle.frame.specs.Digits.{allDigits, inHex, numberAt, allInHex, numbersAt}
 use Rattle.frame.specs.Frame.{partiesGood, setupGood, groupCallGood, acceptanceGood, inRange}
 use Rattle.frame.specs.Layout.{digitsOf, frameInHex, lineOf}
-use Rattle.frame.specs.Line.{messageAt, mediaAt, count, refusalOf, readLine, lineNumber}
 use Rattle.frame.specs.declared.Media.{Media}
 use Rattle.frame.specs.declared.Message.{Message}
+use Rattle.reader.specs.Line.{messageAt, mediaAt, count, refusalOf, readLine, lineNumber}
 use Rattle.writer.specs.Writing.{writeNumber}
 use Rattle.call.specs.Settings.{noCounters, settingsGood}
 use Rattle.call.specs.declared.PrivateTimer.{PrivateTimer}

@@ -4,9 +4,9 @@ use mathlib.Core.List.{List}
 use Prim.Native.Nat.{ℕ}
 use borrow.Author.Tests.{eq-eqb, ne-eqb}
 use Rattle.frame.specs.Layout.{lineOf}
-use Rattle.frame.specs.Line.{lineNumber, readLine}
 use Rattle.frame.specs.declared.Media.{Media}
 use Rattle.frame.specs.declared.Message.{Message}
+use Rattle.reader.specs.Line.{lineNumber, readLine}
 use Rattle.writer.specs.Lent.{told, lentAfter}
 use Rattle.writer.specs.Writing.{writeNumber, writtenOf, bufferOf}
 use Rattle.log.specs.Answer.{answerOf, answerNumber, answerTold, answerBuffer}

@@ -1,10 +1,10 @@
 -- No public contract leaves a choice: nothing is asked, two results that it allows are one, and so is what was lent, at exit. Assumes nothing.
 use mathlib.Core.Path.{_≡_, refl, sym, _∙_}
 use contract.Lifetimes as Lifetimes
-use Rattle.frame.proofs.check_line.Reads as check-line
-use Rattle.frame.proofs.read_line.Reads as read-line
 use Rattle.frame.proofs.range.in_range.Reads as in-range
 use Rattle.frame.proofs.carried.media_none.Reads as media-none
+use Rattle.reader.proofs.check_line.Reads as check-line
+use Rattle.reader.proofs.read_line.Reads as read-line
 use Rattle.writer.proofs.write_line.Reads as write-line
 use Rattle.log.proofs.first_line_length.Reads as first-line-length
 use Rattle.log.proofs.answer_log.Reads as answer-log
@@ -48,14 +48,6 @@ module _ {A R T S : Type 0} {Asked : A → Type 0} {Learnt : A → R → T → T
       → OneAnswer Asked Learnt told (λ t. tt {0})
   result-alone asks one = record { asksNothing = asks; oneResult = one; oneExit = λ a r q s t x y. refl }
 
--- the number of a line
-pub check-line-one : (κs : Lifetimes.Lfts 1) → OneAnswer (check-line.Asked κs) (check-line.Learnt κs) (λ r. r) (λ t. tt {0})
-check-line-one κs = result-alone (λ a. tt) (λ a r q s t x y. same x y)
-
--- the frame of a line
-pub read-line-one : (κs : Lifetimes.Lfts 1) → OneAnswer (read-line.Asked κs) (read-line.Learnt κs) (λ r. r) (λ t. tt {0})
-read-line-one κs = result-alone (λ a. tt) (λ a r q s t x y. same x y)
-
 -- whether a frame is in range
 pub in-range-one : (κs : Lifetimes.Lfts 0) → OneAnswer (in-range.Asked κs) (in-range.Learnt κs) (λ r. r) (λ t. tt {0})
 in-range-one κs = result-alone (λ a. tt) (λ a r q s t x y. same x y)
@@ -63,6 +55,14 @@ in-range-one κs = result-alone (λ a. tt) (λ a r q s t x y. same x y)
 -- whether there is no media
 pub media-none-one : (κs : Lifetimes.Lfts 0) → OneAnswer (media-none.Asked κs) (media-none.Learnt κs) (λ r. r) (λ t. tt {0})
 media-none-one κs = result-alone (λ a. tt) (λ a r q s t x y. same x y)
+
+-- the number of a line
+pub check-line-one : (κs : Lifetimes.Lfts 1) → OneAnswer (check-line.Asked κs) (check-line.Learnt κs) (λ r. r) (λ t. tt {0})
+check-line-one κs = result-alone (λ a. tt) (λ a r q s t x y. same x y)
+
+-- the frame of a line
+pub read-line-one : (κs : Lifetimes.Lfts 1) → OneAnswer (read-line.Asked κs) (read-line.Learnt κs) (λ r. r) (λ t. tt {0})
+read-line-one κs = result-alone (λ a. tt) (λ a r q s t x y. same x y)
 
 -- the number and length of a written line, and the buffer
 pub write-line-one : (κs : Lifetimes.Lfts 1) → OneAnswer (write-line.Asked κs) (write-line.Learnt κs) (λ r. r) (λ t. t .1 .1 .0 .now)

@@ -1,9 +1,9 @@
 -- The contracts say what the demands are about: what a caller learns is the definition, of the result and of what was lent, at exit. Assumes nothing.
 use mathlib.Core.Path.{_≡_}
 use contract.Lifetimes as Lifetimes
-use Rattle.frame.specs.Line.{readLine, lineNumber}
-use Rattle.frame.proofs.check_line.Reads as check-line
-use Rattle.frame.proofs.read_line.Reads as read-line
+use Rattle.reader.specs.Line.{readLine, lineNumber}
+use Rattle.reader.proofs.check_line.Reads as check-line
+use Rattle.reader.proofs.read_line.Reads as read-line
 use Rattle.writer.specs.Writing.{writtenOf, bufferOf}
 use Rattle.writer.proofs.write_line.Reads as write-line
 use Rattle.log.specs.Answer.{answerTold, answerBuffer}

@@ -10,12 +10,12 @@ use borrow.Author.Tests.{eqb-false}
 use Rattle.frame.specs.Digits.{numberAt, numbersAt, allDigits}
 use Rattle.frame.specs.Frame.{partiesGood, groupCallGood, inRange}
 use Rattle.frame.specs.Layout.{digitsOf}
-use Rattle.frame.specs.Line.{messageAt, mediaAt, refusalOf, numberOf, valuesOf, refusal, reading, readLine}
 use Rattle.frame.specs.Media.{noMedia}
 use Rattle.frame.specs.declared.Media.{Media}
-use Rattle.frame.specs.declared.Read.{Read}
-use Rattle.frame.specs.declared.Read.the-variants.{Readable, Refused}
-use Rattle.frame.specs.declared.Reading.{Reading}
+use Rattle.reader.specs.Line.{messageAt, mediaAt, refusalOf, numberOf, valuesOf, refusal, reading, readLine}
+use Rattle.reader.specs.declared.Read.{Read}
+use Rattle.reader.specs.declared.Read.the-variants.{Readable, Refused}
+use Rattle.reader.specs.declared.Reading.{Reading}
 use Rattle.call.specs.Settings.{settingsGood}
 use Rattle.call.specs.declared.Settings.{Settings}
 use Rattle.call.specs.declared.Verdicts.{Verdicts}

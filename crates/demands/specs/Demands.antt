@@ -6,9 +6,9 @@ use mathlib.Core.List.{List}
 use Prim.Native.Nat.{ℕ}
 use Rattle.frame.specs.Frame.{GoodFrame}
 use Rattle.frame.specs.Layout.{lineOf}
-use Rattle.frame.specs.Line.{numberOf, reading, readLine, lineNumber}
 use Rattle.frame.specs.declared.Media.{Media}
 use Rattle.frame.specs.declared.Message.{Message}
+use Rattle.reader.specs.Line.{numberOf, reading, readLine, lineNumber}
 use Rattle.writer.specs.Writing.{writtenOf, bufferOf}
 use Rattle.log.specs.Answer.{answerOf, answerTold, answerBuffer}
 use Rattle.call.specs.declared.Send.{Send}

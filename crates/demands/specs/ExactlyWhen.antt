@@ -7,9 +7,9 @@ use Prim.Native.Nat.{ℕ, suc, _*_, _-_, _<_, _≤_}
 use lib.ListN.{length, getD}
 use Rattle.frame.specs.Frame.{inRange}
 use Rattle.frame.specs.Layout.{lineOf}
-use Rattle.frame.specs.Line.{messageAt, mediaAt, kindAt, lineNumber}
 use Rattle.frame.specs.declared.Media.{Media}
 use Rattle.frame.specs.declared.Message.{Message}
+use Rattle.reader.specs.Line.{messageAt, mediaAt, kindAt, lineNumber}
 use Rattle.log.specs.Answer.{answerOf}
 use Rattle.call.specs.Settings.{settingsGood}
 use Rattle.call.specs.declared.Settings.{Settings}

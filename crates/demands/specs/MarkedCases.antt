@@ -7,12 +7,12 @@ use Prim.Native.String.{String}
 use lib.ListN.{length, set, replicate}
 use Rattle.frame.specs.Media.{noMedia}
 use Rattle.frame.specs.Frame.{inRange}
-use Rattle.frame.specs.Line.{count, lineNumber, readLine, reading, refusal}
 use Rattle.frame.specs.declared.Media.{Media}
 use Rattle.frame.specs.declared.Message.{Message}
 use Rattle.frame.specs.declared.GroupCall.{GroupCall}
 use Rattle.frame.specs.declared.Message.the-variants.{SetupRequest, Ringing, Announcement}
-use Rattle.frame.specs.declared.Reading.{Reading}
+use Rattle.reader.specs.Line.{count, lineNumber, readLine, reading, refusal}
+use Rattle.reader.specs.declared.Reading.{Reading}
 use Rattle.writer.specs.Writing.{writeNumber}
 use Rattle.call.specs.Settings.{noCounters, settingsGood}
 use Rattle.call.specs.declared.Settings.{Settings}

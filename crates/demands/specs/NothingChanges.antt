@@ -4,7 +4,7 @@ use mathlib.Core.List.{List, []}
 use Prim.Native.Nat.{ℕ}
 use lib.ListN.{length}
 use denote.Ref.{RefT}
-use Rattle.frame.specs.Line.{lineNumber, readLine, refusal}
+use Rattle.reader.specs.Line.{lineNumber, readLine, refusal}
 use Rattle.writer.specs.Lent.{atFront}
 use Rattle.writer.specs.declared.Written.{Written}
 use Rattle.call.specs.declared.Settings.{Settings}

@@ -1,11 +1,6 @@
 pub mod Laws
 pub mod NineKinds
 pub mod Hex
-pub mod Judged
 pub mod MediaDigits
-pub mod Accepted
 pub mod Frames
-pub mod ReadsItsLine
-pub mod OnlyLine
-pub mod LineNumbers
 pub mod Longest

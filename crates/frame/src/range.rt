@@ -8,15 +8,8 @@ use crate::Setup;
 use crate::carried::media_good;
 ghost use mathlib.Core.Path.{_≡_};
 ghost use Rattle.frame.specs.Digits.{two, four};
-ghost use Rattle.frame.specs.Range.{within, neverZero, timeGood, flagGood, typeGood, reasonGood, pckGood};
+ghost use Rattle.frame.specs.Range.{neverZero, timeGood, flagGood, typeGood, reasonGood, pckGood};
 ghost use Rattle.frame.specs.Frame.{partiesGood, setupGood, groupCallGood, acceptanceGood, inRange};
-
-// A kind from 01 to 09.
-pub(crate) fn kind_good(kind: u8) -> bool
-    ensures { λ r. ⌜ r ≡ within 1 kind 9 ⌝ }
-{
-    (1 <= kind) & (kind <= 9)
-}
 
 // An identifier or a refresh.
 fn two_good(v: u16) -> bool
@@ -33,21 +26,21 @@ pub(crate) fn four_good(v: u32) -> bool
 }
 
 // A start or a last change: any time.
-pub(crate) fn time_good(time: u32) -> bool
+fn time_good(time: u32) -> bool
     ensures { λ r. ⌜ r ≡ timeGood time ⌝ }
 {
     time <= 4294967295
 }
 
 // A commencement or a confirm.
-pub(crate) fn flag_good(flag: u8) -> bool
+fn flag_good(flag: u8) -> bool
     ensures { λ r. ⌜ r ≡ flagGood flag ⌝ }
 {
     flag <= 1
 }
 
 // The type of a call in a message of this kind.
-pub(crate) fn type_good(kind: u8, call_type: u8) -> bool
+fn type_good(kind: u8, call_type: u8) -> bool
     ensures { λ r. ⌜ r ≡ typeGood kind «call_type» ⌝ }
 {
     if kind == 1 {
@@ -57,14 +50,14 @@ pub(crate) fn type_good(kind: u8, call_type: u8) -> bool
 }
 
 // The reason of a reject.
-pub(crate) fn reason_good(reason: u8) -> bool
+fn reason_good(reason: u8) -> bool
     ensures { λ r. ⌜ r ≡ reasonGood reason ⌝ }
 {
     reason <= 4
 }
 
 // A PCK-ID: 0, or 0011 in its top four bits.
-pub(crate) fn pck_good(pck_id: u32) -> bool
+fn pck_good(pck_id: u32) -> bool
     ensures { λ r. ⌜ r ≡ pckGood «pck_id» ⌝ }
 {
     (pck_id == 0) | (pck_id / 0x1000_0000 == 0b0011)

@@ -1,12 +1,12 @@
 -- A cab in an ongoing call, and what comes in: inputs, and lines as they are heard. Assumes nothing.
 use Prim.Native.Nat.{ℕ}
 use mathlib.Core.List.{List, [], _∷_}
-use Rattle.frame.specs.Line.{readLine}
 use Rattle.frame.specs.declared.Media.{Media}
 use Rattle.frame.specs.declared.GroupCall.{GroupCall}
 use Rattle.frame.specs.declared.Message.the-variants.{Announcement}
-use Rattle.frame.specs.declared.Read.{Read}
-use Rattle.frame.specs.declared.Read.the-variants.{Readable, Refused}
+use Rattle.reader.specs.Line.{readLine}
+use Rattle.reader.specs.declared.Read.{Read}
+use Rattle.reader.specs.declared.Read.the-variants.{Readable, Refused}
 use Rattle.call.specs.declared.Settings.{Settings}
 use Rattle.call.specs.declared.Verdicts.{Verdicts}
 use Rattle.call.specs.declared.GroupTimer.{GroupTimer}

@@ -8,12 +8,12 @@ use lib.Dec.{eqb}
 use lib.ListN.{length, getD, length-append}
 use borrow.Author.Tests.{eq-eqb, ne-eqb, not-true}
 use Rattle.frame.specs.Layout.{lineOf}
-use Rattle.frame.specs.Line.{unended, reading, readLine, lineNumber}
 use Rattle.frame.specs.declared.Media.{Media}
 use Rattle.frame.specs.declared.Message.{Message}
 use Rattle.frame.proofs.Laws.{and-split, or-right}
-use Rattle.frame.proofs.LineNumbers.{unended-number, read-number}
-use Rattle.frame.proofs.OnlyLine.{line-is-the-only-one}
+use Rattle.reader.specs.Line.{unended, reading, readLine, lineNumber}
+use Rattle.reader.proofs.LineNumbers.{unended-number, read-number}
+use Rattle.reader.proofs.OnlyLine.{line-is-the-only-one}
 use Rattle.log.specs.Lines.{isEnd, linesOf, joined, unendedPiece, cutAtEnds}
 use Rattle.log.specs.Answer.{refusalLine, answerTo, answersTo, answerOf, AllReadable}
 use Rattle.log.proofs.Lines.{lines-joined, lines-cut-at-ends, cut-first}

@@ -8,8 +8,8 @@ use native.Mathlib.Omega.{arith}
 use lib.Dec.{eqb}
 use lib.ListN.{length, getD, replicate}
 use borrow.Author.Tests.{eq-eqb, ne-eqb, eqb-true}
-use Rattle.frame.specs.Line.{lineNumber}
-use Rattle.frame.proofs.LineNumbers.{lone-end-number, readable-bytes}
+use Rattle.reader.specs.Line.{lineNumber}
+use Rattle.reader.proofs.LineNumbers.{lone-end-number, readable-bytes}
 use Rattle.log.specs.Lines.{isEnd, ahead, linesOf, joined, endedLine, unendedPiece, cutAtEnds, endsWithEnd}
 use Rattle.log.specs.Answer.{refusalLine, answerTo, answersTo, answerOf}
 use Rattle.log.proofs.Lines.{lines-first, ended-cut, unended-alone, lines-are-the-only-ones}

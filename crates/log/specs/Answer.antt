@@ -6,7 +6,7 @@ use mathlib.Core.Bool.{cond}
 use lib.ListN.{length}
 use lib.Dec.{ltb, eqb}
 use Rattle.frame.specs.Number.{firstGiven}
-use Rattle.frame.specs.Line.{lineNumber}
+use Rattle.reader.specs.Line.{lineNumber}
 use Rattle.writer.specs.Lent.{told, lentAfter}
 use Rattle.writer.specs.declared.Written.{Written}
 use Rattle.log.specs.Lines.{linesOf, joined}

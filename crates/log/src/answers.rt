@@ -11,7 +11,7 @@ ghost use Rattle.log.specs.Answer.{answerTo, answerOf};
 fn answer_length(line: &[u8]) -> usize
     ensures { λ r. ⌜ r ≡ length (answerTo (now (line .entry))) ⌝ }
 {
-    if frame::check_line(line) == 0 {
+    if reader::check_line(line) == 0 {
         return line.len();
     }
     3
@@ -23,7 +23,7 @@ fn answer_line(line: &[u8], out: &mut [u8]) -> usize
     ensures { λ r. ⌜ r ≡ length (answerTo (now (line .entry))) ⌝ }
     ensures { λ _. ⌜ now (out .exit) ≡ atFront (answerTo (now (line .entry))) (now (out .entry)) ⌝ }
 {
-    let number = frame::check_line(line);
+    let number = reader::check_line(line);
     if number == 0 {
         return bytes::copy(line, out);
     }

@@ -1,6 +1,6 @@
 // The entries for the panel shell in C: numbers and byte slices, and nothing else. Declared in host/include/panel.h.
 ghost use mathlib.Core.Path.{_≡_};
-ghost use Rattle.frame.specs.Line.{lineNumber};
+ghost use Rattle.reader.specs.Line.{lineNumber};
 ghost use Rattle.chooser.specs.Choice.{choiceOf, choiceNumber};
 
 // The number of a line: 0 where it is readable, else the first of 1 to 5 that is given.
@@ -8,7 +8,7 @@ ghost use Rattle.chooser.specs.Choice.{choiceOf, choiceNumber};
 pub extern "C" fn panel_line_check(line: &[u8]) -> u32
     ensures { λ r. ⌜ r ≡ lineNumber (now (line .entry)) ⌝ }
 {
-    frame::check_line(line) as u32
+    reader::check_line(line) as u32
 }
 
 // Which of two announcement lines is chosen: 1 the first, 2 the second, 0 neither, which is a refusal.

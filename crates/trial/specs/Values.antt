@@ -8,15 +8,15 @@ use Rattle.frame.specs.Range.{within}
 use Rattle.frame.specs.Media.{noMedia}
 use Rattle.frame.specs.Frame.{kindOf, carries}
 use Rattle.frame.specs.Layout.{front, back, frontOf, backOf}
-use Rattle.frame.specs.Line.{partiesOf, setupOf, groupCallOf, acceptanceOf, messageOf, lineMessage, lineMedia}
 use Rattle.frame.specs.declared.Media.{Media}
 use Rattle.frame.specs.declared.Parties.{Parties}
 use Rattle.frame.specs.declared.Setup.{Setup}
 use Rattle.frame.specs.declared.GroupCall.{GroupCall}
 use Rattle.frame.specs.declared.Acceptance.{Acceptance}
 use Rattle.frame.specs.declared.Message.{Message}
-use Rattle.frame.specs.declared.Read.{Read}
-use Rattle.frame.specs.declared.Read.the-variants.{Readable, Refused}
+use Rattle.reader.specs.Line.{partiesOf, setupOf, groupCallOf, acceptanceOf, messageOf, lineMessage, lineMedia}
+use Rattle.reader.specs.declared.Read.{Read}
+use Rattle.reader.specs.declared.Read.the-variants.{Readable, Refused}
 use Rattle.writer.specs.Writing.{writeNumber, bufferOf}
 
 -- ---- the values of a frame

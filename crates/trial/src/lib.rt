@@ -11,7 +11,7 @@ use crate::values::media_from;
 use crate::values::message_from;
 use crate::values::message_value;
 use crate::values::value_at;
-use frame::Read;
+use reader::Read;
 
 // One value of what a line reads as, in the order of the line: its kind at place 0, its identifier at 1, and so on; 0
 // where there is none.
@@ -19,7 +19,7 @@ use frame::Read;
 pub extern "C" fn trial_value(line: &[u8], place: usize) -> u32
     ensures { λ r. ⌜ r ≡ getD (lineValues (now (line .entry))) place 0 ⌝ }
 {
-    let reading = frame::read_line(line);
+    let reading = reader::read_line(line);
     let media = reading.media;
     let read = reading.read;
     match read {

@@ -11,10 +11,10 @@ use call::Settings;
 use call::Verdicts;
 use frame::Media;
 use frame::Message;
-use frame::Read;
 use libc::STDERR_FILENO;
 use libc::STDOUT_FILENO;
 use private_record::states::PrivateRecord;
+use reader::Read;
 
 // What user 9 sends to accept the call, with media 6.
 const ACCEPT: [u8; 31] = *b"031234000000070000000900000006\n";
@@ -108,7 +108,7 @@ fn starts_group_call() -> Input {
 // The private call: user 7 starts it, hears the accept of user 9, and ends it.
 fn play_private_call() {
     let called = private_step(private_record::states::cleared_record(), starts());
-    let reading = frame::read_line(&ACCEPT);
+    let reading = reader::read_line(&ACCEPT);
     let media = reading.media;
     let read = reading.read;
     match read {

@@ -1,6 +1,6 @@
 -- `chooser::line_announced` meets its contract: what the line reads as gives the case. Assumes nothing.
 use mathlib.Core.Path.{sym, ap, _∙_}
-use Rattle.frame.specs.declared.Reading.{Reading}
+use Rattle.reader.specs.declared.Reading.{Reading}
 use Rattle.chooser.specs.Choice.{announcedIn}
 use borrow.Author.Needs.{needs}
 use Rattle.chooser.proofs.line_announced.Statement.{statement}

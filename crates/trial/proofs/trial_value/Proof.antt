@@ -4,9 +4,9 @@ use mathlib.Core.Path.{_≡_, sym, ap, _∙_}
 use mathlib.Core.List.{List}
 use lib.ListN.{getD}
 use borrow.Author.Needs.{needs}
-use Rattle.frame.specs.Line.{readLine}
-use Rattle.frame.specs.declared.Read.{Read}
-use Rattle.frame.specs.declared.Reading.{Reading}
+use Rattle.reader.specs.Line.{readLine}
+use Rattle.reader.specs.declared.Read.{Read}
+use Rattle.reader.specs.declared.Reading.{Reading}
 use Rattle.trial.specs.Values.{readValues, lineValues}
 use Rattle.trial.proofs.trial_value.Statement.{statement}
 use Rattle.trial.proofs.trial_value.Tie as tie

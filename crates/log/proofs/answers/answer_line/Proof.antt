@@ -5,7 +5,7 @@ use Prim.Native.Nat.{ℕ, _≤_}
 use native.Mathlib.Omega.{arith}
 use lib.ListN.{length, drop, length-set}
 use lib.Seq.{take-length, sets-eq}
-use Rattle.frame.proofs.LineNumbers.{line-number-at-most}
+use Rattle.reader.proofs.LineNumbers.{line-number-at-most}
 use Rattle.log.specs.Answer.{refusalLine, answerTo}
 use Rattle.log.proofs.LineByLine.{answer-readable, answer-refused}
 use borrow.Author.Needs.{needs}

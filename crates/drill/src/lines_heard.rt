@@ -1,0 +1,200 @@
+// A line heard, and the choice between two lines.
+use crate::cabs::BOTH;
+use crate::cabs::BOTH_LINES;
+use crate::cabs::last_sent;
+use crate::commands::CHOOSES;
+use crate::commands::HEARS;
+use crate::complaints::LINE;
+use crate::complaints::NO_LINE_OF_A;
+use crate::complaints::NO_LINE_OF_B;
+use crate::complaints::NOTHING;
+use crate::complaints::complain;
+use crate::happenings::input_of;
+use crate::lists::take_names_of;
+use crate::names::unless_no;
+use crate::steps::take_step;
+use crate::telling::LONGEST;
+use crate::telling::put_command;
+use crate::text::put;
+use crate::text::put_field;
+use crate::text::put_named;
+use crate::text::put_text;
+use crate::text::say;
+use crate::words::find;
+use crate::words::next_word;
+use crate::words::part;
+use crate::words::place_in;
+use crate::words::word_at;
+use call::Event;
+use call::Input;
+use reader::Read;
+
+// What is wrong with naming the last line of a cab: that there is none.
+fn sent_complaint(sent: &[u8; BOTH_LINES], cab: usize, none: usize) -> usize {
+    let line = last_sent(sent, cab);
+    if line.len() == 0 {
+        return none;
+    }
+    NOTHING
+}
+
+// What is wrong with a word that is to be a line.
+fn line_complaint(sent: &[u8; BOTH_LINES], word: &[u8]) -> usize {
+    if word.len() == 0 {
+        return LINE;
+    }
+    if find(word, 0, b'=') < word.len() {
+        return LINE;
+    }
+    match place_in(b"a b", word) {
+        0 => sent_complaint(sent, 0, NO_LINE_OF_A),
+        1 => sent_complaint(sent, 1, NO_LINE_OF_B),
+        _ => NOTHING,
+    }
+}
+
+// The digits of the line that a word stands for, at the front of a buffer.
+fn put_digits(out: &mut [u8], sent: &[u8; BOTH_LINES], word: &[u8]) -> usize {
+    match place_in(b"a b nothing", word) {
+        0 => put_text(out, 0, last_sent(sent, 0)),
+        1 => put_text(out, 0, last_sent(sent, 1)),
+        2 => 0,
+        _ => put_text(out, 0, word),
+    }
+}
+
+// The line that a word stands for, at the front of a buffer, with its line end or without it; gives its length.
+fn put_line(out: &mut [u8], sent: &[u8; BOTH_LINES], word: &[u8], ended: bool) -> usize {
+    let end = put_digits(out, sent, word);
+    if ended {
+        return put(out, end, b'\n');
+    }
+    end
+}
+
+// Tells what the reader or the chooser answers, a number and perhaps a line; whether that could be written.
+fn tell_answer(command: usize, cab: usize, machine: &[u8], number: u8, chosen: &[u8]) -> bool {
+    let mut out = [0u8; LONGEST];
+    let mut at = put_command(&mut out, command, cab);
+    at = put_field(&mut out, at, machine);
+    at = put_named(&mut out, at, b" ", number as u64);
+    at = put_text(&mut out, at, b" - - - - - - -");
+    at = put_field(&mut out, at, chosen);
+    at = put_text(&mut out, at, b" - -");
+    say(&mut out, at)
+}
+
+// Has both machines of a cab take a step; whether all could be written.
+fn take_both_steps(
+    cabs: &mut [u64; BOTH],
+    sent: &mut [u8; BOTH_LINES],
+    cab: usize,
+    command: usize,
+    input: Input,
+) -> bool {
+    let written = take_step(cabs, sent, cab, command, true, input);
+    take_step(cabs, sent, cab, command, false, input) & written
+}
+
+// Has both machines of a cab take a step on a line, unless the reader refuses it; whether all could be written.
+fn hear(
+    cabs: &mut [u64; BOTH],
+    sent: &mut [u8; BOTH_LINES],
+    cab: usize,
+    command: usize,
+    line: &[u8],
+    named: &[u64; 16],
+) -> bool {
+    let reading = reader::read_line(line);
+    let media = reading.media;
+    let read = reading.read;
+    match read {
+        Read::Readable(message) => {
+            let input = input_of(Event::Message(message), media, named);
+            take_both_steps(cabs, sent, cab, command, input)
+        }
+        Read::Refused(number) => tell_answer(command, cab, b"reader", number, b""),
+    }
+}
+
+// Plays the command `hears` from the words behind it; whether all could be written.
+pub(crate) fn play_hears(
+    cabs: &mut [u64; BOTH],
+    sent: &mut [u8; BOTH_LINES],
+    cab: usize,
+    command: usize,
+    line: &[u8],
+    at: usize,
+) -> bool {
+    let next = next_word(line, at);
+    let word = word_at(line, next);
+    let complaint = line_complaint(sent, word);
+    if complaint != NOTHING {
+        return complain(command, complaint, next.from);
+    }
+    let mut named = [0u64; 16];
+    let fault = take_names_of(HEARS, line, next.to, &mut named);
+    if fault.complaint != NOTHING {
+        return complain(command, fault.complaint, fault.at);
+    }
+    let mut heard = io::large_buffer();
+    let length = put_line(&mut heard, sent, word, unless_no(&named, 2));
+    hear(cabs, sent, cab, command, part(&heard, 0, length), &named)
+}
+
+// Has the chooser choose between the lines that two words stand for; whether its answer could be written.
+fn choose(
+    sent: &[u8; BOTH_LINES],
+    cab: usize,
+    command: usize,
+    first: &[u8],
+    second: &[u8],
+) -> bool {
+    let mut one = io::large_buffer();
+    let mut other = io::large_buffer();
+    let one_length = put_line(&mut one, sent, first, true);
+    let other_length = put_line(&mut other, sent, second, true);
+    let one_line = part(&one, 0, one_length);
+    let other_line = part(&other, 0, other_length);
+    let number = chooser::choose_number(one_line, other_line);
+    let chosen = chooser::choose(one_line, other_line);
+    tell_answer(
+        command,
+        cab,
+        b"chooser",
+        number,
+        part(chosen, 0, find(chosen, 0, b'\n')),
+    )
+}
+
+// Plays the command `chooses` from the words behind it; whether all could be written.
+pub(crate) fn play_chooses(
+    sent: &[u8; BOTH_LINES],
+    cab: usize,
+    command: usize,
+    line: &[u8],
+    at: usize,
+) -> bool {
+    let first = next_word(line, at);
+    let of_first = line_complaint(sent, word_at(line, first));
+    if of_first != NOTHING {
+        return complain(command, of_first, first.from);
+    }
+    let second = next_word(line, first.to);
+    let of_second = line_complaint(sent, word_at(line, second));
+    if of_second != NOTHING {
+        return complain(command, of_second, second.from);
+    }
+    let mut named = [0u64; 16];
+    let fault = take_names_of(CHOOSES, line, second.to, &mut named);
+    if fault.complaint != NOTHING {
+        return complain(command, fault.complaint, fault.at);
+    }
+    choose(
+        sent,
+        cab,
+        command,
+        word_at(line, first),
+        word_at(line, second),
+    )
+}

@@ -1,0 +1,112 @@
+// How a shift ends: the records of both cabs, and in words whether the cabs are in the same call.
+use crate::cabs::BOTH;
+use crate::cabs::GROUP;
+use crate::cabs::PRIVATE;
+use crate::cabs::value;
+use crate::records::group_numbers;
+use crate::records::group_of;
+use crate::records::private_numbers;
+use crate::records::private_of;
+use crate::telling::tell_record;
+use crate::text::put_text;
+use crate::text::say;
+use crate::words::nth_line;
+
+// Tells both records of a cab; whether that could be written.
+fn tell_cab(cabs: &[u64; BOTH], cab: usize) -> bool {
+    let private = private_numbers(private_of(cabs, cab));
+    let group = group_numbers(group_of(cabs, cab));
+    let told = tell_record(cab, true, &private);
+    tell_record(cab, false, &group) & told
+}
+
+// How the calls of two cabs may stand to each other, in words.
+const STANDINGS: [u8; 242] = *b"neither cab is in a call.
+cab a is in a call, cab b is in none.
+cab b is in a call, cab a is in none.
+both cabs are in the same call.
+the cabs are in calls with the same identifier that differ in other fields.
+the cabs are in different calls.";
+
+// How they do, as the number of a line of these words, by whether each cab is in a call and how far the calls agree.
+fn standing_of(a: bool, b: bool, same_identifier: bool, alike: bool) -> usize {
+    if a & b {
+        return both_in_calls(same_identifier, alike);
+    }
+    if a {
+        return 1;
+    }
+    if b {
+        return 2;
+    }
+    0
+}
+
+// The same where both are in a call.
+fn both_in_calls(same_identifier: bool, alike: bool) -> usize {
+    if alike {
+        return 3;
+    }
+    if same_identifier {
+        return 4;
+    }
+    5
+}
+
+// Whether both cabs have the same number at a place from the first of a list on.
+fn same_value(cabs: &[u64; BOTH], first: usize, place: usize) -> bool {
+    value(cabs, 0, first, place) == value(cabs, 1, first, place)
+}
+
+// Whether both cabs have the same numbers, from one place of a list up to another.
+fn same_values(cabs: &[u64; BOTH], first: usize, from: usize, to: usize) -> bool {
+    let mut place = from;
+    while place < to {
+        if !same_value(cabs, first, place) {
+            return false;
+        }
+        place += 1;
+    }
+    true
+}
+
+// How the private calls stand to each other: a cab is in one in P4.
+fn private_standing(cabs: &[u64; BOTH]) -> usize {
+    let a = value(cabs, 0, PRIVATE, 0) == 4;
+    let b = value(cabs, 1, PRIVATE, 0) == 4;
+    standing_of(
+        a,
+        b,
+        same_value(cabs, PRIVATE, 10),
+        same_values(cabs, PRIVATE, 10, 16),
+    )
+}
+
+// How the group calls stand to each other: a cab is in one in S3.
+fn group_standing(cabs: &[u64; BOTH]) -> usize {
+    let a = value(cabs, 0, GROUP, 0) == 1;
+    let b = value(cabs, 1, GROUP, 0) == 1;
+    standing_of(
+        a,
+        b,
+        same_value(cabs, GROUP, 5),
+        same_values(cabs, GROUP, 4, 13),
+    )
+}
+
+// Tells how the calls stand to each other; whether that could be written.
+fn tell_standing(machine: &[u8], standing: usize) -> bool {
+    let mut out = [0u8; 128];
+    let standings = STANDINGS;
+    let mut at = put_text(&mut out, 0, machine);
+    at = put_text(&mut out, at, nth_line(&standings, standing));
+    say(&mut out, at)
+}
+
+// Tells how a shift ends; whether that could be written.
+pub(crate) fn tell_outcome(cabs: &[u64; BOTH]) -> bool {
+    let mut told = tell_cab(cabs, 0);
+    told = tell_cab(cabs, 1) & told;
+    told = tell_standing(b"Private call: ", private_standing(cabs)) & told;
+    tell_standing(b"Group call: ", group_standing(cabs)) & told
+}

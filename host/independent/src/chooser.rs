@@ -14,7 +14,7 @@ pub fn choice_number(first: &[u8], second: &[u8]) -> u32 {
 /// Gives 1 if the first line is the better, 2 if the second is, 0 on refusal.
 pub fn chosen(first: &[u8], second: &[u8]) -> u32 {
     match rivals(first, second) {
-        Ok((one, other)) if standing(&one) < standing(&other) => 1,
+        Ok((one, other)) if better(&one, &other) => 1,
         Ok(_) => 2,
         Err(_) => 0,
     }
@@ -32,6 +32,16 @@ fn rivals(first: &[u8], second: &[u8]) -> Result<(Announcement, Announcement), u
         }
         _ => Err(NO_CHOICE),
     }
+}
+
+/// Tells whether one call of a group is better than another.
+pub fn better(one: &Announcement, other: &Announcement) -> bool {
+    standing(one) < standing(other)
+}
+
+/// Tells whether one type of group call has a better rank than another.
+pub fn better_rank(one: u32, other: u32) -> bool {
+    rank(one) < rank(other)
 }
 
 /// Gives what decides between calls, in that order: the lower is the better.

@@ -71,6 +71,8 @@ const CALLEE: Field = field("callee", 4, FROM_ONE);
 const MEDIA: Field = field("media", 4, FROM_ONE);
 /// The group number.
 const GROUP: Field = field("group", 4, FROM_ONE);
+/// The type of a group call.
+pub const GROUP_CALL_TYPE: Field = field("call_type", 1, GROUP_TYPE);
 
 /// The fields of kind 01.
 const SETUP_REQUEST: &[Field] = &[
@@ -92,7 +94,7 @@ const REJECT: &[Field] = &[IDENTIFIER, CALLER, CALLEE, field("reason", 1, REASON
 const ANNOUNCEMENT: &[Field] = &[
     IDENTIFIER,
     GROUP,
-    field("call_type", 1, GROUP_TYPE),
+    GROUP_CALL_TYPE,
     field("refresh", 2, SHORT_FROM_ONE),
     MEDIA,
     field("originator", 4, FROM_ONE),
@@ -105,7 +107,7 @@ const ANNOUNCEMENT: &[Field] = &[
 const GROUP_ACCEPT: &[Field] = &[
     IDENTIFIER,
     field("sender", 4, FROM_ONE),
-    field("call_type", 1, GROUP_TYPE),
+    GROUP_CALL_TYPE,
     GROUP,
 ];
 

@@ -20,6 +20,7 @@ pub mod message;
 pub mod private;
 pub mod random;
 pub mod settings;
+pub mod shown;
 pub mod step;
 pub mod timer;
 

@@ -3,9 +3,10 @@
 mod damage;
 mod messages;
 
+pub use self::damage::damage;
 pub use self::messages::{message_perhaps_outside, message_wide};
 
-use self::damage::{damage, put_kind};
+use self::damage::put_kind;
 use self::messages::{
     message_in_range, message_of_edges, message_outside, values_in_range, values_outside,
 };

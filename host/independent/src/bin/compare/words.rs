@@ -1,16 +1,6 @@
 //! Inputs and answers in words, for whoever has to look at a difference.
 
-/// Gives bytes as text, with \xNN for each byte that is not printable ASCII and for the backslash.
-fn text(bytes: &[u8]) -> String {
-    let mut text = String::with_capacity(bytes.len());
-    for &byte in bytes {
-        match byte {
-            b' '..=b'~' if byte != b'\\' => text.push(char::from(byte)),
-            _ => text.push_str(&format!("\\x{byte:02x}")),
-        }
-    }
-    text
-}
+use independent::shown::text;
 
 /// Gives bytes as text with their count in front.
 pub fn counted(bytes: &[u8]) -> String {
@@ -61,14 +51,15 @@ pub fn values(values: &[u32]) -> String {
 mod tests {
     use super::*;
 
-    /// Printable bytes stand for themselves, all others are spelt out, and nothing is cut.
+    /// The count goes before the text, and nothing is cut.
     #[test]
-    fn bytes_as_text() {
-        assert_eq!(text(b" 0aZ~!"), " 0aZ~!");
-        assert_eq!(text(b"\n\r\0\\\x7f\xff"), "\\x0a\\x0d\\x00\\x5c\\x7f\\xff");
+    fn counted_bytes() {
         assert_eq!(counted(b""), "no bytes");
         assert_eq!(counted(b"\n"), "1 byte: \\x0a");
         assert_eq!(counted(b"02\n"), "3 bytes: 02\\x0a");
-        assert_eq!(text(&[b'0'; 70_000]).len(), 70_000);
+        assert_eq!(
+            counted(&[b'0'; 70_000]).len(),
+            70_000 + "70000 bytes: ".len()
+        );
     }
 }

@@ -3,10 +3,28 @@
 
 #![forbid(unsafe_code)]
 
+mod cues;
+mod cut;
+mod endings;
+mod faults;
+mod heard;
 mod options;
+mod phrase;
+mod pools;
+mod program;
+mod records;
+mod rehearsal;
+mod script;
+mod slips;
+mod tally;
+mod turns;
+mod unreadable;
 
-use independent::drill;
-use options::Task;
+use independent::drill::{self, Machines};
+use options::{Options, Task};
+use program::Program;
+use rehearsal::{Ended, Rehearsal};
+use slips::SLIPS;
 use std::env;
 use std::fs::File;
 use std::io::{self, Read, Write};
@@ -35,14 +53,52 @@ fn main() -> ExitCode {
 /// Does a task, and tells whether all was as it should be.
 fn done(task: &Task) -> io::Result<bool> {
     match task {
-        Task::Play(file) => put(&drill::play(&script(file)?))?,
+        Task::Rehearse(options, program) => return rehearse(options, program),
+        Task::Script(seed, number) => put(&script::made(*seed, *number))?,
+        Task::Play(file) => put(&drill::play(&read(file)?))?,
+        Task::Slips => {
+            for slip in &SLIPS {
+                say(&format!("{:<16} {}", slip.name, slip.meaning))?;
+            }
+        }
         Task::Help => put(options::HELP.as_bytes())?,
     }
     Ok(true)
 }
 
+/// Looks for a difference, and tells whether there was none and all was met often enough.
+fn rehearse(options: &Options, program: &Program) -> io::Result<bool> {
+    say(&format!("seed {}", options.seed))?;
+    let machines = options
+        .slip
+        .map_or(Machines::RULES, |place| SLIPS[place].machines);
+    let rehearsal = Rehearsal {
+        seed: options.seed,
+        steps: options.steps,
+        machines,
+        program,
+    };
+    let tally = match rehearsal.run()? {
+        Ended::Agreed(tally) => tally,
+        Ended::Differed(difference) => {
+            say(&difference)?;
+            return Ok(false);
+        }
+    };
+    say(&tally.table())?;
+    let missing = tally.missing().join("; ");
+    if missing.is_empty() {
+        say(&format!("no difference: {} steps", tally.steps))?;
+        return Ok(true);
+    }
+    say(&format!(
+        "FAILED: no difference, but not met often enough: {missing}"
+    ))?;
+    Ok(false)
+}
+
 /// Reads as much of a script as is needed to see that it is too long.
-fn script(file: &str) -> io::Result<Vec<u8>> {
+fn read(file: &str) -> io::Result<Vec<u8>> {
     let mut script = Vec::new();
     let most = independent::log::MOST as u64 + 1;
     let read = if file == "-" {
@@ -52,6 +108,11 @@ fn script(file: &str) -> io::Result<Vec<u8>> {
     };
     read.map_err(|error| named(&format!("{file} could not be read"), error))?;
     Ok(script)
+}
+
+/// Writes a text and a line end to standard output, at once.
+fn say(text: &str) -> io::Result<()> {
+    put(format!("{text}\n").as_bytes())
 }
 
 /// Writes bytes to standard output, at once.

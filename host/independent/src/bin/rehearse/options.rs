@@ -1,24 +1,176 @@
 //! What the program is asked to do, from the words it is called with.
 
+use crate::program::Program;
+use crate::slips::{Slip, SLIPS};
+
 /// What is to be done.
 #[derive(Debug, PartialEq, Eq)]
 pub enum Task {
-    /// Print what the independent implementation makes of a script: the file's name, or `-`.
+    /// Look for a difference.
+    Rehearse(Options, Program),
+    /// Write the script of a seed that has this number.
+    Script(u64, u64),
+    /// Write what the independent implementation makes of a script: the file's name, or `-`.
     Play(String),
+    /// List the slips.
+    Slips,
     /// Say how the program is called.
     Help,
 }
 
+/// How the scripts are made and played.
+#[derive(Debug, PartialEq, Eq)]
+pub struct Options {
+    pub seed: u64,
+    pub steps: u64,
+    /// The place of a slip among all of them.
+    pub slip: Option<usize>,
+}
+
 /// How the program is called.
 pub const HELP: &str = "\
-rehearse --play FILE: writes what the independent implementation makes of a script, from standard input where FILE is -
+rehearse [OPTIONS] -- COMMAND...: plays random scripts by the program that COMMAND runs, which reads a script from standard input and
+writes its transcript to standard output, and by the independent implementation, and looks for a difference
+  --seed N     what the scripts are made from (1)
+  --steps N    how many steps of the machines there are at least (1000000)
+  --slip NAME  puts a slip into the independent machines, to see that it is found
+rehearse --slips: lists the slips by their names
+rehearse --script N [--seed N]: writes the script of a seed that has this number, from 1
+rehearse --play FILE: writes what the independent implementation makes of a script; from standard input where FILE is -
+A difference is shown with its script, cut down to the commands that are needed for it.
+Status: 0 no difference; 1 a difference, or a run of 10000 steps or more that did not meet all it should often enough; 2 bad usage or no
+way to read, to write or to run COMMAND
 ";
 
 /// Reads the words after the program's name, or says in one line what is wrong with them.
 pub fn parse(words: &[String]) -> Result<Task, String> {
     let words: Vec<&str> = words.iter().map(String::as_str).collect();
-    match words[..] {
-        ["--play", file] => Ok(Task::Play(file.to_string())),
-        _ => Ok(Task::Help),
+    let mut parts = words.splitn(2, |&word| word == "--");
+    let own = parts.next().unwrap_or_default();
+    let command = parts.next();
+    if own.contains(&"--help") {
+        return Ok(Task::Help);
+    }
+    match (own, command) {
+        (["--slips"], None) => Ok(Task::Slips),
+        (["--play", file], None) => Ok(Task::Play(file.to_string())),
+        (["--play"], _) => Err("--play needs a word behind it".to_string()),
+        (["--slips" | "--play", ..], _) => Err(format!("too many words for {}", own[0])),
+        _ => options(own, command),
+    }
+}
+
+/// Reads the options of a run or of a script.
+fn options(words: &[&str], command: Option<&[&str]>) -> Result<Task, String> {
+    let mut options = Options {
+        seed: 1,
+        steps: 1_000_000,
+        slip: None,
+    };
+    let mut script = None;
+    let mut words = words.iter();
+    while let Some(&name) = words.next() {
+        if !["--seed", "--steps", "--slip", "--script"].contains(&name) {
+            return Err(format!("no such option: {name:?}; --help lists them"));
+        }
+        let Some(&word) = words.next() else {
+            return Err(format!("{name} needs a word behind it"));
+        };
+        match name {
+            "--seed" => options.seed = number(name, word)?,
+            "--steps" => options.steps = number(name, word)?,
+            "--slip" => options.slip = Some(slip(word)?),
+            _ => script = Some(number(name, word)?),
+        }
+    }
+    match (script, command) {
+        (Some(script), None) => Ok(Task::Script(options.seed, script)),
+        (Some(_), Some(_)) => Err("--script takes no COMMAND".to_string()),
+        (None, Some([first, rest @ ..])) => {
+            let words = [first].into_iter().chain(rest).map(|word| word.to_string());
+            let words = words.collect();
+            Ok(Task::Rehearse(options, Program { words }))
+        }
+        _ => Err("no COMMAND: -- and what runs the program come last".to_string()),
+    }
+}
+
+/// Reads a number that stands behind a word.
+fn number(name: &str, word: &str) -> Result<u64, String> {
+    word.parse()
+        .map_err(|_| format!("{name} needs a number from 0 to {}, not {word:?}", u64::MAX))
+}
+
+/// Reads the name of a slip, and gives its place.
+fn slip(word: &str) -> Result<usize, String> {
+    let named = |slip: &Slip| slip.name == word;
+    SLIPS.iter().position(named).ok_or(format!(
+        "--slip needs the name of a slip, not {word:?}; --slips lists them"
+    ))
+}
+
+#[cfg(test)]
+mod tests {
+    use super::*;
+
+    /// Reads words that are given in one line.
+    fn parsed(line: &str) -> Result<Task, String> {
+        let words: Vec<String> = line.split_whitespace().map(str::to_string).collect();
+        parse(&words)
+    }
+
+    /// Every option is taken, and what is not given has the default that the help names.
+    #[test]
+    fn good_words() {
+        let program = |words: &[&str]| Program {
+            words: words.iter().map(|word| word.to_string()).collect(),
+        };
+        let full = Options {
+            seed: 1,
+            steps: 1_000_000,
+            slip: None,
+        };
+        assert!(HELP.contains("(1)") && HELP.contains("(1000000)"));
+        let run = Task::Rehearse(full, program(&["./drill"]));
+        assert_eq!(parsed("-- ./drill"), Ok(run));
+        for (place, slip) in SLIPS.iter().enumerate() {
+            let given = Options {
+                seed: 7,
+                steps: 5,
+                slip: Some(place),
+            };
+            let line = format!("--slip {} --steps 5 --seed 7 -- x --seed -- y", slip.name);
+            let run = Task::Rehearse(given, program(&["x", "--seed", "--", "y"]));
+            assert_eq!(parsed(&line), Ok(run));
+        }
+        assert_eq!(parsed("--script 3 --seed 9"), Ok(Task::Script(9, 3)));
+        assert_eq!(parsed("--play -"), Ok(Task::Play("-".to_string())));
+        assert_eq!(parsed("--slips"), Ok(Task::Slips));
+        assert_eq!(parsed("--seed x --help"), Ok(Task::Help));
+    }
+
+    /// Every wrong call is told in one line.
+    #[test]
+    fn bad_words() {
+        for line in [
+            "",
+            "--",
+            "--seed 1",
+            "--seed -- x",
+            "--seed x -- x",
+            "--steps -1 -- x",
+            "--slip none -- x",
+            "--slips 1",
+            "--play",
+            "--play x y",
+            "--play x -- y",
+            "--script 1 -- x",
+            "--script one",
+            "--other 1 -- x",
+            "x",
+        ] {
+            let wrong = parsed(line).unwrap_err();
+            assert!(!wrong.contains('\n') && !wrong.is_empty(), "{line}");
+        }
     }
 }

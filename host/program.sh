@@ -1,7 +1,13 @@
 #!/usr/bin/env bash
-# host/program.sh NAME: runs the program NAME of crates/ on this standard input and output, under the loader and C library of the Rattle
-# kit, and under its emulator where the machine is not x86-64. Before that it proves and builds NAME quietly, where anything has changed.
+# host/program.sh [--command] NAME: runs the program NAME of crates/ on this standard input and output, under the loader and C library of
+# the Rattle kit, and under its emulator where the machine is not x86-64. Before that it proves and builds NAME quietly, where anything has
+# changed. With --command it does not run it, but says the words of the command that would, a line each.
 set -u
+run=(exec)
+if [ "${1-}" = --command ]; then
+    run=(printf '%s\n')
+    shift
+fi
 name=${1-}
 root=$(cd "$(dirname "${BASH_SOURCE[0]}")/.." && pwd -P) || exit 2
 
@@ -11,7 +17,7 @@ fail() {
     exit 2
 }
 
-[ $# -eq 1 ] && [ -n "$name" ] || fail "usage: host/program.sh NAME"
+[ $# -eq 1 ] && [ -n "$name" ] || fail "usage: host/program.sh [--command] NAME"
 [ -f "$root/crates/$name/src/main.rt" ] || fail "no program of this name in crates/"
 rt=$(command -v rt) || fail "rt, the command of the Rattle kit, is not on the PATH"
 kit=${RATTLE_HOME:-$(dirname "$(dirname "$(readlink -f "$rt")")")}
@@ -28,7 +34,6 @@ if [ ! -x "$program" ]; then
 fi
 (cd "$root" && "$rt" check "$name") </dev/null >/dev/null 2>&1 || fail "not proved or not built: rt check $name says why"
 
-if [ -x "$emulator" ]; then
-    exec "$emulator" "$loader" --library-path "$tools/lib" "$program"
-fi
-exec "$loader" --library-path "$tools/lib" "$program"
+command=("$loader" --library-path "$tools/lib" "$program")
+[ ! -x "$emulator" ] || command=("$emulator" "${command[@]}")
+"${run[@]}" "${command[@]}"

@@ -37,6 +37,7 @@ pub const PRIVATE: &[(private::State, Option<Timer>, Cue)] = {
         (P1, None, PrivateStart),
         (P2, Some(Tfp1), Expires(Tfp1)),
         (P2, Some(Tfp1), Expires(Tfp1)),
+        (P2, Some(Tfp1), Expires(Tfp1)),
         (P2, Some(Tfp1), Hears(Ringing)),
         (P2, None, Hears(Accept)),
         (P2, None, Hears(Reject)),
@@ -60,6 +61,7 @@ pub const PRIVATE: &[(private::State, Option<Timer>, Cue)] = {
         (P0, None, Hears(PrivateCallSetupRequest)),
         (P1, None, Hears(PrivateCallSetupRequest)),
         (P1, None, Hears(PrivateCallSetupRequest)),
+        (P5, Some(Tfp2), PrivateAccept),
         (P5, Some(Tfp2), PrivateAccept),
         (P5, Some(Tfp2), PrivateAccept),
         (P5, Some(Tfp2), PrivateReject),
@@ -93,6 +95,7 @@ pub const GROUP: &[(group::State, Cue)] = {
         (S5, Expires(Tfg4)),
         (S3, GroupLeave),
         (S3, Expires(Tfg6)),
+        (S3, GroupRaise),
         (S3, GroupRaise),
         (S3, GroupRaise),
         (S3, Hears(GroupCallAnnouncement)),
@@ -149,7 +152,7 @@ pub fn phrase(random: &mut Random, name: Name, own: &Cab, other: &Cab, cue: Cue)
         Cue::PrivateEnd => plain(random, name, &["private", "end"]),
         Cue::PrivateAccept => {
             let phrase = Phrase::new(name, &["private", "accept"]);
-            let good = random.chance(2);
+            let good = random.chance(3);
             verdicts(random, phrase, true, good)
         }
         Cue::PrivateReject => plain(random, name, &["private", "reject"]),
@@ -213,10 +216,12 @@ fn group_start(random: &mut Random, name: Name) -> Phrase {
 
 /// Puts a raise in words.
 fn group_raise(random: &mut Random, name: Name, own: &Cab) -> Phrase {
-    let arguments = [
-        ("type", pools::call_type(random)),
-        ("now", pools::time_near(random, own.group.call.last_change)),
-    ];
+    let last_change = own.group.call.last_change;
+    let now = match random.below(3) {
+        0 => last_change.saturating_add(1),
+        _ => pools::time_near(random, last_change),
+    };
+    let arguments = [("type", *random.pick(&[1, 2, 2, 2, 3])), ("now", now)];
     with_arguments(random, Phrase::new(name, &["group", "raise"]), &arguments)
 }
 

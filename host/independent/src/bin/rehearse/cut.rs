@@ -1,6 +1,8 @@
 //! Cutting a script down to what shows a difference.
 
+use independent::drill::words::Words;
 use independent::line::LINE_END;
+use std::io;
 use std::time::{Duration, Instant};
 
 /// How long a script is cut at most, for a program that hangs would be waited for each time.
@@ -27,39 +29,73 @@ fn command_of(line: Option<&[u8]>) -> Option<usize> {
     digits.parse().ok()
 }
 
-/// Cuts a script that shows a difference: what stands behind the command of the first difference, and then
-/// every line without which there is still one.
-pub fn cut<E>(
-    script: &[u8],
-    first: Option<usize>,
-    mut differs: impl FnMut(&[u8]) -> Result<bool, E>,
-) -> Result<Vec<u8>, E> {
+/// Tells whether a script still shows a difference.
+type Differs<'a> = &'a mut dyn FnMut(&[u8]) -> io::Result<bool>;
+
+/// Cuts a script that shows a difference: what stands behind the command of the first difference, then
+/// every line without which there is still one, and then every such word.
+pub fn cut(script: &[u8], first: Option<usize>, differs: Differs) -> io::Result<Vec<u8>> {
+    let until = Instant::now() + LONGEST;
     let mut lines: Vec<&[u8]> = script.split_inclusive(|&byte| byte == LINE_END).collect();
     if let Some(front) = first.and_then(|first| lines.get(..first)) {
         if differs(&front.concat())? {
             lines = front.to_vec();
         }
     }
-    let begun = Instant::now();
-    let mut size = lines.len().div_ceil(2);
+    let lines = needed(lines, until, |lines| differs(&lines.concat()))?;
+    let lines = words_cut(&lines, until, differs)?;
+    // A line may be needed no more where another has lost a word.
+    let lines = lines.iter().map(Vec::as_slice).collect();
+    let lines = needed(lines, until, |lines| differs(&lines.concat()))?;
+    Ok(lines.concat())
+}
+
+/// Leaves out every word of some lines without which there is still a difference.
+fn words_cut(lines: &[&[u8]], until: Instant, differs: Differs) -> io::Result<Vec<Vec<u8>>> {
+    let mut lines: Vec<Vec<u8>> = lines.iter().map(|line| line.to_vec()).collect();
+    for place in 0..lines.len() {
+        let with = |words: &[&[u8]]| {
+            let mut changed = lines.clone();
+            changed[place] = words.join(&b' ');
+            changed[place].push(LINE_END);
+            changed
+        };
+        let words: Vec<&[u8]> = Words::new(lines[place].trim_ascii_end())
+            .map(|word| word.bytes)
+            .collect();
+        if differs(&with(&words).concat())? {
+            let words = needed(words, until, |words| differs(&with(words).concat()))?;
+            lines = with(&words);
+        }
+    }
+    Ok(lines)
+}
+
+/// Leaves out every piece without which there is still a difference: first many at once, then one by one.
+fn needed<'a>(
+    mut pieces: Vec<&'a [u8]>,
+    until: Instant,
+    mut differs: impl FnMut(&[&'a [u8]]) -> io::Result<bool>,
+) -> io::Result<Vec<&'a [u8]>> {
+    let mut size = pieces.len().div_ceil(2);
     while size > 0 {
-        let before = lines.len();
+        let before = pieces.len();
         let mut place = 0;
-        while place < lines.len() && begun.elapsed() < LONGEST {
-            let end = lines.len().min(place + size);
-            let rest = [&lines[..place], &lines[end..]].concat();
-            if differs(&rest.concat())? {
-                lines = rest;
+        while place < pieces.len() && Instant::now() < until {
+            let end = pieces.len().min(place + size);
+            let rest = [&pieces[..place], &pieces[end..]].concat();
+            if differs(&rest)? {
+                pieces = rest;
             } else {
                 place = end;
             }
         }
-        size = match size {
-            1 if lines.len() < before => 1,
-            _ => size / 2,
-        };
+        // One by one goes on as long as it helps.
+        if size > 1 || pieces.len() == before {
+            size /= 2;
+        }
     }
-    Ok(lines.concat())
+    Ok(pieces)
 }
 
 #[cfg(test)]
@@ -73,12 +109,24 @@ mod tests {
         let needed = |script: &[u8]| {
             let text = String::from_utf8_lossy(script).into_owned();
             let has = |wanted| text.lines().any(|line| line == wanted);
-            Ok::<bool, ()>(has("17") && has("311") && has("312"))
+            Ok(has("17") && has("311") && has("312"))
         };
         for first in [None, Some(312), Some(400), Some(100), Some(9_999)] {
-            let cut = cut(script.as_bytes(), first, needed);
-            assert_eq!(cut, Ok(b"17\n311\n312\n".to_vec()), "{first:?}");
+            let cut = cut(script.as_bytes(), first, &mut { needed }).expect("no error");
+            assert_eq!(cut, b"17\n311\n312\n", "{first:?}");
         }
+    }
+
+    /// Only the words that are needed stay, one blank between two of them.
+    #[test]
+    fn needed_words_stay() {
+        let needed = |script: &[u8]| {
+            let text = String::from_utf8_lossy(script).into_owned();
+            Ok(["a", "end", "last"].iter().all(|word| text.contains(word)))
+        };
+        let script = b"first\n,a  x=1\tprivate y=2 end # all\r\nlast";
+        let cut = cut(script, None, &mut { needed }).expect("no error");
+        assert_eq!(cut, b"end\nlast\n");
     }
 
     /// The command of the first difference is found in every sort of line.

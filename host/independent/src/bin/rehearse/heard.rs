@@ -19,7 +19,7 @@ pub fn phrase(random: &mut Random, name: Name, own: &Cab, kind: Kind) -> Phrase 
     let message = match kind {
         Kind::PrivateCallSetupRequest => {
             // One of what can follow: no media, accepted, a bad signature, ringing.
-            let sort = random.below(4);
+            let sort = *random.pick(&[0, 1, 2, 2, 3]);
             (media, signature) = (sort != 0, sort == 1 || random.chance(3));
             Message::PrivateCallSetupRequest(request(random, own, sort))
         }
@@ -162,7 +162,8 @@ pub fn damaged(random: &mut Random, name: Name, own: &Cab) -> Phrase {
     phrase
 }
 
-/// Gives the word of a line, which mostly has no byte that would end it, and whether the line is ended.
+/// Gives the word of a line, which mostly has no byte that would end it and now and then one that is no
+/// digit, and whether the line is ended.
 pub fn word(random: &mut Random, line: &[u8]) -> (Vec<u8>, bool) {
     let (mut word, ended) = match line.strip_suffix(&[LINE_END]) {
         Some(digits) => (digits.to_vec(), true),
@@ -173,6 +174,9 @@ pub fn word(random: &mut Random, line: &[u8]) -> (Vec<u8>, bool) {
     }
     if word.is_empty() {
         word.extend(b"nothing");
+    } else if random.chance(6) {
+        let place = random.below(word.len() as u64) as usize;
+        word[place] = *random.pick(b"AFGgxZ.:/@`-\0\x7f\xff");
     }
     (word, ended)
 }

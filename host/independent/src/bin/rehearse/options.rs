@@ -37,7 +37,7 @@ writes its transcript to standard output, and by the independent implementation,
 rehearse --slips: lists the slips by their names
 rehearse --script N [--seed N]: writes the script of a seed that has this number, from 1
 rehearse --play FILE: writes what the independent implementation makes of a script; from standard input where FILE is -
-A difference is shown with its script, cut down to the commands that are needed for it.
+These three take no notice of a COMMAND. A difference is shown with its script, cut down to the commands that are needed for it.
 Status: 0 no difference; 1 a difference, or a run of 10000 steps or more that did not meet all it should often enough; 2 bad usage or no
 way to read, to write or to run COMMAND
 ";
@@ -51,11 +51,11 @@ pub fn parse(words: &[String]) -> Result<Task, String> {
     if own.contains(&"--help") {
         return Ok(Task::Help);
     }
-    match (own, command) {
-        (["--slips"], None) => Ok(Task::Slips),
-        (["--play", file], None) => Ok(Task::Play(file.to_string())),
-        (["--play"], _) => Err("--play needs a word behind it".to_string()),
-        (["--slips" | "--play", ..], _) => Err(format!("too many words for {}", own[0])),
+    match own {
+        ["--slips"] => Ok(Task::Slips),
+        ["--play", file] => Ok(Task::Play(file.to_string())),
+        ["--play"] => Err("--play needs a word behind it".to_string()),
+        ["--slips" | "--play", ..] => Err(format!("too many words for {}", own[0])),
         _ => options(own, command),
     }
 }
@@ -84,8 +84,7 @@ fn options(words: &[&str], command: Option<&[&str]>) -> Result<Task, String> {
         }
     }
     match (script, command) {
-        (Some(script), None) => Ok(Task::Script(options.seed, script)),
-        (Some(_), Some(_)) => Err("--script takes no COMMAND".to_string()),
+        (Some(script), _) => Ok(Task::Script(options.seed, script)),
         (None, Some([first, rest @ ..])) => {
             let words = [first].into_iter().chain(rest).map(|word| word.to_string());
             let words = words.collect();
@@ -144,6 +143,7 @@ mod tests {
             assert_eq!(parsed(&line), Ok(run));
         }
         assert_eq!(parsed("--script 3 --seed 9"), Ok(Task::Script(9, 3)));
+        assert_eq!(parsed("--script 3 -- x"), Ok(Task::Script(1, 3)));
         assert_eq!(parsed("--play -"), Ok(Task::Play("-".to_string())));
         assert_eq!(parsed("--slips"), Ok(Task::Slips));
         assert_eq!(parsed("--seed x --help"), Ok(Task::Help));
@@ -163,8 +163,6 @@ mod tests {
             "--slips 1",
             "--play",
             "--play x y",
-            "--play x -- y",
-            "--script 1 -- x",
             "--script one",
             "--other 1 -- x",
             "x",

@@ -37,9 +37,9 @@ pub fn private(
     }
 }
 
-/// Draws what a counter with a limit has counted, one time like the other all.
+/// Draws what a counter with a limit has counted, one time out of three all.
 fn counted(random: &mut Random, limit: u32) -> u32 {
-    if random.chance(2) {
+    if random.chance(3) {
         return limit;
     }
     1 + random.below(u64::from(limit.max(1))) as u32

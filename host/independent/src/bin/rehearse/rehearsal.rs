@@ -101,8 +101,8 @@ impl Rehearsal<'_> {
     /// Cuts a script down that shows a difference, and puts all of it in words.
     fn report(&self, number: u64, found: Played) -> io::Result<String> {
         let first = cut::first_difference(&found.answer.printed, &found.independent);
-        let cut = cut::cut(&found.script, first, |script| {
-            Ok::<bool, io::Error>(self.played(script.to_vec())?.differs())
+        let cut = cut::cut(&found.script, first, &mut |script| {
+            Ok(self.played(script.to_vec())?.differs())
         })?;
         let before = lines_of(&found.script);
         let mut shown = self.played(cut)?;

@@ -17,6 +17,14 @@ pub const LONG_EVERY: u64 = 8;
 /// The bytes from which on a script that is not to be too long is ended.
 const ENOUGH: u64 = 48_000;
 
+/// One script in so many prints as much as there can be, or has as many lines, or a line as long.
+const DENSE_EVERY: u64 = 64;
+/// Where that script stands among the others, from 0.
+const DENSE: u64 = 32;
+
+/// What the densest scripts are made of.
+const DENSEST: [&[u8]; 6] = [b"\n", b"a\n", b"a hears\n", b"#", b"a", b"a hears ="];
+
 /// The smallest scripts.
 const SMALLEST: [&[u8]; 8] = [b"", b"\n", b"a", b"#", b"\r\n", b"\0", b"b hears", b"\n\n,"];
 
@@ -25,6 +33,7 @@ pub fn made(seed: u64, number: u64) -> Vec<u8> {
     let mut random = Random::new(Random::new(seed).next() ^ Random::new(number).next());
     let sort = number % LONG_EVERY;
     let length = match sort {
+        0 if number % DENSE_EVERY == DENSE => return dense(&mut random),
         0 => MOST + 200,
         5 if random.chance(3) => return random.pick(&SMALLEST).to_vec(),
         5 => random.below(4_000) as usize,
@@ -40,11 +49,20 @@ pub fn made(seed: u64, number: u64) -> Vec<u8> {
         maker.turn();
     }
     if sort == 0 {
-        maker.end_near_the_cut();
+        maker.end_near_the_cut(number);
     } else {
         endings::put(&mut maker, number);
     }
     maker.script
+}
+
+/// Makes a script of one line again and again, or of one line alone, about as long as what is taken.
+fn dense(random: &mut Random) -> Vec<u8> {
+    let line = random.pick(&DENSEST);
+    let length = MOST - 2 + random.below(5) as usize;
+    let mut script = line.repeat(length / line.len() + 1);
+    script.truncate(length);
+    script
 }
 
 /// A script that is being made.
@@ -91,13 +109,19 @@ impl Maker {
     }
 
     /// Makes the script end just before, at or just behind the last byte that is taken, or further on.
-    fn end_near_the_cut(&mut self) {
+    fn end_near_the_cut(&mut self, number: u64) {
         match self.random.below(3) {
             0 => self.script[MOST - 1] = LINE_END,
             1 => self.script[MOST] = LINE_END,
             _ => {}
         }
-        match self.random.below(8) {
+        // Every second one is too long for sure.
+        let shortest = if number.is_multiple_of(2 * LONG_EVERY) {
+            0
+        } else {
+            2
+        };
+        match shortest + self.random.below(4) {
             0 => self.script.truncate(MOST - 1),
             1 => self.script.truncate(MOST),
             2 => self.script.truncate(MOST + 1),

@@ -1,19 +1,31 @@
 //! What a run has met, counted from the transcripts.
 
 use independent::drill::words::Complaint;
+use std::collections::HashMap;
 
 /// From how many steps on a run has to meet everything.
 pub const ENOUGH: u64 = 10_000;
 
-/// How often it has to meet a row, a number or a complaint in so many steps.
-const LEAST: u64 = 20;
+/// How often something has to be met.
+#[derive(Clone, Copy)]
+enum Least {
+    /// So often in `ENOUGH` steps, and more often in more.
+    InSteps(u64),
+    /// Once, since a script has it at most once.
+    Once,
+}
 
-/// How often something was met, and how often it has to be met in `ENOUGH` steps.
+/// What each row, each number and each complaint has to be met.
+const OFTEN: Least = Least::InSteps(20);
+
+/// What each number of the reader and of the chooser has to be met, of which most count above already.
+const LESS_OFTEN: Least = Least::InSteps(10);
+
+/// How often something was met.
 struct Count {
     what: String,
     met: u64,
-    /// Whether it is met at most once in a script, and so need not be met more often than once.
-    rare: bool,
+    least: Least,
 }
 
 /// The counts of a run.
@@ -22,6 +34,8 @@ pub struct Tally {
     scripts: u64,
     bytes: u64,
     counts: Vec<Count>,
+    /// The places of the counts by what they count.
+    places: HashMap<String, usize>,
 }
 
 impl Tally {
@@ -31,19 +45,27 @@ impl Tally {
         let rows = rows.chain((1..=11).map(|row| format!("row G{row}")));
         let numbers = (0..=10).map(|number| format!("number {number}"));
         let reader = (1..=5).map(|number| format!("reader {number}"));
-        let chooser = [0, 1, 2, 3, 4, 5, 10].map(|number| format!("chooser {number}"));
+        // A line that the chooser is asked about always has its line end.
+        let chooser = [0, 2, 3, 4, 5, 10].map(|number| format!("chooser {number}"));
         let complaints = Complaint::ALL.map(|complaint| unreadable(complaint.text()));
-        let often = rows.chain(numbers).chain(reader);
-        let often = often.chain(chooser).chain(complaints);
-        let mut counts: Vec<Count> = often.map(|what| count(what, false)).collect();
-        counts.push(count("too long".to_string(), true));
-        for call in ["Private call", "Group call"] {
-            counts.extend(SENTENCES.map(|sentence| count(format!("{call}: {sentence}"), true)));
-        }
+        let sentences = ["Private call", "Group call"]
+            .map(|call| SENTENCES.map(|sentence| format!("{call}: {sentence}")));
+        let once = [TOO_LONG.to_string()]
+            .into_iter()
+            .chain(sentences.into_iter().flatten());
+        let counts: Vec<Count> = rows
+            .chain(numbers)
+            .chain(complaints)
+            .map(|what| count(what, OFTEN))
+            .chain(reader.chain(chooser).map(|what| count(what, LESS_OFTEN)))
+            .chain(once.map(|what| count(what, Least::Once)))
+            .collect();
+        let places = counts.iter().map(|count| count.what.clone()).zip(0..);
         Tally {
             steps: 0,
             scripts: 0,
             bytes: 0,
+            places: places.collect(),
             counts,
         }
     }
@@ -62,7 +84,7 @@ impl Tally {
         if let Some(wrong) = line.strip_prefix("! ") {
             match wrong.split_once(": ") {
                 Some((place, text)) if place.starts_with("line ") => self.meet(&unreadable(text)),
-                _ => self.meet("too long"),
+                _ => self.meet(TOO_LONG),
             }
             return;
         }
@@ -89,8 +111,9 @@ impl Tally {
 
     /// Counts what is met, which must be one of what the tally was started with.
     fn meet(&mut self, what: &str) {
-        let count = self.counts.iter_mut().find(|count| count.what == what);
-        count.unwrap_or_else(|| panic!("no count of {what}")).met += 1;
+        let place = self.places.get(what);
+        let place = *place.unwrap_or_else(|| panic!("no count of {what}"));
+        self.counts[place].met += 1;
     }
 
     /// Lists what was not met often enough, if there were steps enough to meet it.
@@ -98,8 +121,10 @@ impl Tally {
         if self.steps < ENOUGH {
             return Vec::new();
         }
-        let often = LEAST * self.steps / ENOUGH;
-        let least = |count: &Count| if count.rare { 1 } else { often };
+        let least = |count: &Count| match count.least {
+            Least::InSteps(least) => least * self.steps / ENOUGH,
+            Least::Once => 1,
+        };
         let missing = self.counts.iter().filter(|count| count.met < least(count));
         missing
             .map(|count| format!("{} {} of {}", count.what, count.met, least(count)))
@@ -122,6 +147,9 @@ impl Tally {
     }
 }
 
+/// Names the count of scripts that were not taken whole.
+const TOO_LONG: &str = "script of more than 65536 bytes";
+
 /// The sentences about the calls that the cabs are in.
 const SENTENCES: [&str; 6] = [
     "neither cab is in a call.",
@@ -138,6 +166,10 @@ fn unreadable(text: &str) -> String {
 }
 
 /// Starts a count.
-fn count(what: String, rare: bool) -> Count {
-    Count { what, met: 0, rare }
+fn count(what: String, least: Least) -> Count {
+    Count {
+        what,
+        met: 0,
+        least,
+    }
 }

@@ -18,19 +18,21 @@ impl Maker {
             self.repair(name);
         }
         match self.random.below(100) {
-            0..=35 => self.something(name),
-            36..=67 => self.something_set_up(name),
-            68..=70 => self.good_settings(name),
-            71..=73 => self.bad_settings(name),
-            74..=76 => self.bad_record(name),
-            77..=79 => self.other_buffer(name),
-            80..=83 => {
+            0..=29 => self.something(name),
+            30..=63 => self.something_set_up(name),
+            64..=66 => self.good_settings(name),
+            67..=68 => self.bad_settings(name),
+            69..=71 => self.bad_record(name),
+            72..=74 => self.other_buffer(name),
+            75..=79 => {
                 let phrase = heard::damaged(&mut self.random, name, self.player.cab(name));
                 self.say(&phrase);
             }
-            84..=87 => self.choice(name),
+            80..=87 => self.choice(name),
             88..=97 => {
-                let complaint = *self.random.pick(&Complaint::ALL);
+                let mut complaints = Complaint::ALL.to_vec();
+                complaints.retain(|complaint| self.can_be_met(*complaint));
+                let complaint = *self.random.pick(&complaints);
                 self.unreadable(complaint);
             }
             _ => self.no_command(),
@@ -107,6 +109,14 @@ impl Maker {
         }
         let phrase = Phrase::new(name, &["chooses"]);
         self.say(&phrase.word(&words[0]).word(&words[1]));
+    }
+
+    /// Tells whether a command can be unreadable for this reason by now.
+    fn can_be_met(&self, complaint: Complaint) -> bool {
+        match complaint {
+            Complaint::NoLineYet(name) => self.cab(name).sent.is_none(),
+            _ => true,
+        }
     }
 
     /// Puts a command into the script that cannot be read.

@@ -25,8 +25,8 @@ pub enum Cue {
     Hears(Kind),
 }
 
-/// The states of the private machine, with a timer where only one will do, and what a row waits for there;
-/// what leads to several rows stands more than once.
+/// The states of the private machine, with a timer where only one will do, and what a row waits for there,
+/// or what it must not take; what leads to several rows stands more than once.
 pub const PRIVATE: &[(private::State, Option<Timer>, Cue)] = {
     use private::State::{P0, P1, P2, P3, P4, P5};
     use Cue::{Expires, Hears, PrivateAccept, PrivateEnd, PrivateReject, PrivateStart};
@@ -89,6 +89,8 @@ pub const GROUP: &[(group::State, Cue)] = {
         (S1, Hears(GroupCallAnnouncement)),
         (S5, GroupAccept),
         (S4, GroupAccept),
+        (S4, Hears(GroupCallAnnouncement)),
+        (S5, Hears(GroupCallAnnouncement)),
         (S4, GroupReject),
         (S5, GroupReject),
         (S4, Expires(Tfg4)),

@@ -91,7 +91,7 @@ pub fn group(random: &mut Random, settings: &Settings, state: group::State) -> g
 pub fn private_broken(random: &mut Random, record: &private::Record) -> private::Record {
     let mut broken = *record;
     let call = &mut broken.call;
-    match random.below(12) {
+    match random.below(14) {
         0 => broken.state = *random.pick(&private::State::ALL),
         1 | 2 => broken.running = flipped(broken.running, *random.pick(&Timer::PRIVATE)),
         3 | 4 => {
@@ -101,8 +101,10 @@ pub fn private_broken(random: &mut Random, record: &private::Record) -> private:
         }
         5 => call.identifier = 0,
         6 => std::mem::swap(&mut call.caller, &mut call.callee),
-        7 => call.caller = pools::user(random),
-        8 => call.callee = pools::user(random),
+        7 => call.caller = call.callee,
+        8 => call.callee = call.caller,
+        9 => call.caller = pools::user(random),
+        10 => call.callee = pools::user(random),
         _ => {
             let name = *random.pick(&["caller", "callee", "commencement", "media", "pck-id"]);
             let value = pools::outside(random, name);

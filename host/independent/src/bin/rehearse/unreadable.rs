@@ -97,6 +97,9 @@ const NO_STATES: [&[u8]; 10] = [
     b"", b"P6", b"S0", b"S2", b"S6", b"p0", b"P", b"P00", b"4", b"P1\0",
 ];
 
+/// Values of any sort.
+const ANY_VALUES: [&[u8]; 4] = [b"1", b"", b"yes", b"x"];
+
 /// Makes the words of a command that is unreadable for this reason, from one that is readable.
 pub fn words(random: &mut Random, complaint: Complaint, good: &Phrase) -> Vec<Vec<u8>> {
     let cab = *random.pick(&Name::ALL);
@@ -193,7 +196,7 @@ fn no_name(random: &mut Random, cab: Name, good: &Phrase) -> Vec<Vec<u8>> {
 fn twice(random: &mut Random, cab: Name) -> Vec<Vec<u8>> {
     let (phrase, name, _) = named(random, cab);
     let mut words = phrase.words(random);
-    let value: &[u8] = *random.pick(&[&b"1"[..], b"", b"yes", b"x"]);
+    let value = random.pick(&ANY_VALUES);
     words.push([name.as_bytes(), b"=", value].concat());
     words
 }

@@ -83,11 +83,10 @@ report_wrongs() {
 # One case: with a slip of this name in the independent machines, a difference is found soon, and cut down to a few commands.
 finds() {
     run --slip "$1" --steps 5000 -- "${drill[@]}"
-    verdict "the slip $1 is found, and cut down to $(sed -n 's/^the script, \([0-9]*\) of .*/\1/p' "$room/wrote") commands" \
-        "$(wrongs 1; report_wrongs 5)"
+    verdict "the slip $1 is found, and cut down to at most five commands" "$(wrongs 1; report_wrongs 5)"
 }
 "$rehearse" --slips >"$room/slips"
-verdict "there are ten slips" "$([ "$(wc -l <"$room/slips")" -eq 10 ] || echo "$(wc -l <"$room/slips")")"
+verdict "there are ten slips" "$([ "$(wc -l <"$room/slips")" -eq 10 ] || wc -l <"$room/slips")"
 while read -r name _; do
     finds "$name"
 done <"$room/slips"

@@ -1,5 +1,6 @@
 //! Cutting a script down to what shows a difference.
 
+use crate::summary::summed_up;
 use independent::drill::words::Words;
 use independent::line::LINE_END;
 use std::io;
@@ -7,6 +8,9 @@ use std::time::{Duration, Instant};
 
 /// How long a script is cut at most, for a program that hangs would be waited for each time.
 const LONGEST: Duration = Duration::from_secs(60);
+
+/// How many lines are few enough to be left as they are.
+const FEW: usize = 2;
 
 /// Finds the command of the first line in which two transcripts differ, if a command has printed it.
 pub fn first_difference(one: &[u8], other: &[u8]) -> Option<usize> {
@@ -33,7 +37,8 @@ fn command_of(line: Option<&[u8]>) -> Option<usize> {
 type Differs<'a> = &'a mut dyn FnMut(&[u8]) -> io::Result<bool>;
 
 /// Cuts a script that shows a difference: what stands behind the command of the first difference, then
-/// every line without which there is still one, and then every such word.
+/// every line without which there is still one, and then every such word. Where many lines are needed, what
+/// they lead to is set by hand in their place, if that shows a difference too.
 pub fn cut(script: &[u8], first: Option<usize>, differs: Differs) -> io::Result<Vec<u8>> {
     let until = Instant::now() + LONGEST;
     let mut lines: Vec<&[u8]> = script.split_inclusive(|&byte| byte == LINE_END).collect();
@@ -43,7 +48,13 @@ pub fn cut(script: &[u8], first: Option<usize>, differs: Differs) -> io::Result<
         }
     }
     let lines = needed(lines, until, |lines| differs(&lines.concat()))?;
-    let lines = words_cut(&lines, until, differs)?;
+    let mut lines: Vec<Vec<u8>> = lines.into_iter().map(<[u8]>::to_vec).collect();
+    if let Some(summary) = summed_up(&lines).filter(|_| lines.len() > FEW) {
+        if differs(&summary.concat())? {
+            lines = summary;
+        }
+    }
+    let lines = words_cut(lines, until, differs)?;
     // A line may be needed no more where another has lost a word.
     let lines = lines.iter().map(Vec::as_slice).collect();
     let lines = needed(lines, until, |lines| differs(&lines.concat()))?;
@@ -51,8 +62,11 @@ pub fn cut(script: &[u8], first: Option<usize>, differs: Differs) -> io::Result<
 }
 
 /// Leaves out every word of some lines without which there is still a difference.
-fn words_cut(lines: &[&[u8]], until: Instant, differs: Differs) -> io::Result<Vec<Vec<u8>>> {
-    let mut lines: Vec<Vec<u8>> = lines.iter().map(|line| line.to_vec()).collect();
+fn words_cut(
+    mut lines: Vec<Vec<u8>>,
+    until: Instant,
+    differs: Differs,
+) -> io::Result<Vec<Vec<u8>>> {
     for place in 0..lines.len() {
         let with = |words: &[&[u8]]| {
             let mut changed = lines.clone();

@@ -16,6 +16,7 @@ mod records;
 mod rehearsal;
 mod script;
 mod slips;
+mod summary;
 mod tally;
 mod turns;
 mod unreadable;

@@ -37,7 +37,7 @@ writes its transcript to standard output, and by the independent implementation,
 rehearse --slips: lists the slips by their names
 rehearse --script N [--seed N]: writes the script of a seed that has this number, from 1
 rehearse --play FILE: writes what the independent implementation makes of a script; from standard input where FILE is -
-These three take no notice of a COMMAND. A difference is shown with its script, cut down to the commands that are needed for it.
+These three take no notice of a COMMAND. A difference is shown with its script, cut down to the words that are needed for it.
 Status: 0 no difference; 1 a difference, or a run of 10000 steps or more that did not meet each row, each number and each complaint about a
 command at least 20 times in 10000 steps, or something else too seldom; 2 bad usage or no way to read, to write or to run COMMAND
 ";

@@ -30,7 +30,8 @@ const SMALLEST: [&[u8]; 8] = [b"", b"\n", b"a", b"#", b"\r\n", b"\0", b"b hears"
 
 /// Makes the script of a number, which a seed has as many of as one likes.
 pub fn made(seed: u64, number: u64) -> Vec<u8> {
-    let mut random = Random::new(Random::new(seed).next() ^ Random::new(number).next());
+    let own = Random::new(seed).next().wrapping_add(number);
+    let mut random = Random::new(Random::new(own).next());
     let sort = number % LONG_EVERY;
     let length = match sort {
         0 if number % DENSE_EVERY == DENSE => return dense(&mut random),

@@ -1,5 +1,6 @@
 // The two cabs of a shift, 0 for a and 1 for b: their settings and their records as numbers, each at its place, and the
 // line that each sent last.
+ghost use Prim.Native.Nat.{_≤_};
 use crate::words::find;
 use crate::words::part;
 
@@ -86,7 +87,9 @@ pub(crate) fn begin(cabs: &mut [u64; BOTH], cab: usize, user: u64) {
 }
 
 // Where the last line of a cab begins.
-fn line_place(cab: usize) -> usize {
+fn line_place(cab: usize) -> usize
+    ensures { λ r. ⌜ r ≤ 128 ⌝ }
+{
     if cab == 0 {
         return 0;
     }
@@ -98,9 +101,7 @@ pub(crate) fn keep_sent(sent: &mut [u8; BOTH_LINES], cab: usize, lent: &[u8; MOS
     let first = line_place(cab);
     let mut i = 0;
     while i < MOST_LENT {
-        if first <= MOST_LENT {
-            sent[first + i] = lent[i];
-        }
+        sent[first + i] = lent[i];
         i += 1;
     }
 }
@@ -108,9 +109,10 @@ pub(crate) fn keep_sent(sent: &mut [u8; BOTH_LINES], cab: usize, lent: &[u8; MOS
 // The last line of a cab, without its line end; no bytes where it has sent none.
 pub(crate) fn last_sent<'a>(sent: &'a [u8; BOTH_LINES], cab: usize) -> &'a [u8] {
     let first = line_place(cab);
-    let end = find(sent, first, b'\n');
-    if end < BOTH_LINES {
-        return part(sent, first, end);
+    let own = part(sent, first, first + MOST_LENT);
+    let end = find(own, 0, b'\n');
+    if end < own.len() {
+        return part(own, 0, end);
     }
-    part(sent, 0, 0)
+    part(own, 0, 0)
 }

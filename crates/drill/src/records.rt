@@ -17,37 +17,17 @@ use group_record::states::GroupRecord;
 use private_record::states::PrivateCall;
 use private_record::states::PrivateRecord;
 
-// A number of 32 bits of a cab.
-fn number_at(cabs: &[u64; BOTH], cab: usize, first: usize, place: usize) -> u32 {
-    to_number(value(cabs, cab, first, place))
-}
-
-// A number of 16 bits of a cab.
-fn pair_at(cabs: &[u64; BOTH], cab: usize, first: usize, place: usize) -> u16 {
-    to_pair(value(cabs, cab, first, place))
-}
-
-// A number of 8 bits of a cab.
-fn byte_at(cabs: &[u64; BOTH], cab: usize, first: usize, place: usize) -> u8 {
-    to_byte(value(cabs, cab, first, place))
-}
-
-// A yes or no of a cab.
-fn flag_at(cabs: &[u64; BOTH], cab: usize, first: usize, place: usize) -> bool {
-    to_flag(value(cabs, cab, first, place))
-}
-
 // The settings of a cab.
 pub(crate) fn settings_of(cabs: &[u64; BOTH], cab: usize) -> Settings {
     Settings {
-        own_user: number_at(cabs, cab, SETTINGS, 0),
-        own_group: number_at(cabs, cab, SETTINGS, 1),
-        restrict: flag_at(cabs, cab, SETTINGS, 2),
-        acknowledgement: flag_at(cabs, cab, SETTINGS, 3),
+        own_user: to_number(value(cabs, cab, SETTINGS, 0)),
+        own_group: to_number(value(cabs, cab, SETTINGS, 1)),
+        restrict: to_flag(value(cabs, cab, SETTINGS, 2)),
+        acknowledgement: to_flag(value(cabs, cab, SETTINGS, 3)),
         limits: Counters {
-            cfp1: byte_at(cabs, cab, SETTINGS, 4),
-            cfp3: byte_at(cabs, cab, SETTINGS, 5),
-            cfp4: byte_at(cabs, cab, SETTINGS, 6),
+            cfp1: to_byte(value(cabs, cab, SETTINGS, 4)),
+            cfp3: to_byte(value(cabs, cab, SETTINGS, 5)),
+            cfp4: to_byte(value(cabs, cab, SETTINGS, 6)),
         },
     }
 }
@@ -67,12 +47,12 @@ fn private_state(place: u64) -> private_record::states::State {
 // The timers that run in a private record of a cab.
 fn private_running(cabs: &[u64; BOTH], cab: usize) -> private_record::states::Timers {
     private_record::states::Timers {
-        tfp1: flag_at(cabs, cab, PRIVATE, 1),
-        tfp2: flag_at(cabs, cab, PRIVATE, 2),
-        tfp3: flag_at(cabs, cab, PRIVATE, 3),
-        tfp4: flag_at(cabs, cab, PRIVATE, 4),
-        tfp5: flag_at(cabs, cab, PRIVATE, 5),
-        tfp7: flag_at(cabs, cab, PRIVATE, 6),
+        tfp1: to_flag(value(cabs, cab, PRIVATE, 1)),
+        tfp2: to_flag(value(cabs, cab, PRIVATE, 2)),
+        tfp3: to_flag(value(cabs, cab, PRIVATE, 3)),
+        tfp4: to_flag(value(cabs, cab, PRIVATE, 4)),
+        tfp5: to_flag(value(cabs, cab, PRIVATE, 5)),
+        tfp7: to_flag(value(cabs, cab, PRIVATE, 6)),
     }
 }
 
@@ -80,15 +60,15 @@ fn private_running(cabs: &[u64; BOTH], cab: usize) -> private_record::states::Ti
 fn private_call_of(cabs: &[u64; BOTH], cab: usize) -> PrivateCall {
     PrivateCall {
         parties: Parties {
-            identifier: pair_at(cabs, cab, PRIVATE, 10),
-            caller: number_at(cabs, cab, PRIVATE, 11),
-            callee: number_at(cabs, cab, PRIVATE, 12),
+            identifier: to_pair(value(cabs, cab, PRIVATE, 10)),
+            caller: to_number(value(cabs, cab, PRIVATE, 11)),
+            callee: to_number(value(cabs, cab, PRIVATE, 12)),
         },
-        commencement: byte_at(cabs, cab, PRIVATE, 13),
+        commencement: to_byte(value(cabs, cab, PRIVATE, 13)),
         media: Media {
-            number: number_at(cabs, cab, PRIVATE, 14),
+            number: to_number(value(cabs, cab, PRIVATE, 14)),
         },
-        pck_id: number_at(cabs, cab, PRIVATE, 15),
+        pck_id: to_number(value(cabs, cab, PRIVATE, 15)),
     }
 }
 
@@ -98,9 +78,9 @@ pub(crate) fn private_of(cabs: &[u64; BOTH], cab: usize) -> PrivateRecord {
         state: private_state(value(cabs, cab, PRIVATE, 0)),
         running: private_running(cabs, cab),
         counters: Counters {
-            cfp1: byte_at(cabs, cab, PRIVATE, 7),
-            cfp3: byte_at(cabs, cab, PRIVATE, 8),
-            cfp4: byte_at(cabs, cab, PRIVATE, 9),
+            cfp1: to_byte(value(cabs, cab, PRIVATE, 7)),
+            cfp3: to_byte(value(cabs, cab, PRIVATE, 8)),
+            cfp4: to_byte(value(cabs, cab, PRIVATE, 9)),
         },
         call: private_call_of(cabs, cab),
     }
@@ -119,14 +99,14 @@ fn group_state(place: u64) -> group_record::states::State {
 // The call of a group record of a cab, all but its media.
 fn group_call_of(cabs: &[u64; BOTH], cab: usize) -> GroupCall {
     GroupCall {
-        group: number_at(cabs, cab, GROUP, 4),
-        identifier: pair_at(cabs, cab, GROUP, 5),
-        call_type: byte_at(cabs, cab, GROUP, 6),
-        refresh: pair_at(cabs, cab, GROUP, 7),
-        originator: number_at(cabs, cab, GROUP, 9),
-        start: number_at(cabs, cab, GROUP, 10),
-        last_change: number_at(cabs, cab, GROUP, 11),
-        last_changer: number_at(cabs, cab, GROUP, 12),
+        group: to_number(value(cabs, cab, GROUP, 4)),
+        identifier: to_pair(value(cabs, cab, GROUP, 5)),
+        call_type: to_byte(value(cabs, cab, GROUP, 6)),
+        refresh: to_pair(value(cabs, cab, GROUP, 7)),
+        originator: to_number(value(cabs, cab, GROUP, 9)),
+        start: to_number(value(cabs, cab, GROUP, 10)),
+        last_change: to_number(value(cabs, cab, GROUP, 11)),
+        last_changer: to_number(value(cabs, cab, GROUP, 12)),
     }
 }
 
@@ -135,13 +115,13 @@ pub(crate) fn group_of(cabs: &[u64; BOTH], cab: usize) -> GroupRecord {
     GroupRecord {
         state: group_state(value(cabs, cab, GROUP, 0)),
         running: group_record::states::Timers {
-            tfg2: flag_at(cabs, cab, GROUP, 1),
-            tfg4: flag_at(cabs, cab, GROUP, 2),
-            tfg6: flag_at(cabs, cab, GROUP, 3),
+            tfg2: to_flag(value(cabs, cab, GROUP, 1)),
+            tfg4: to_flag(value(cabs, cab, GROUP, 2)),
+            tfg6: to_flag(value(cabs, cab, GROUP, 3)),
         },
         call: group_call_of(cabs, cab),
         media: Media {
-            number: number_at(cabs, cab, GROUP, 8),
+            number: to_number(value(cabs, cab, GROUP, 8)),
         },
     }
 }

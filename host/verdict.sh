@@ -13,6 +13,9 @@ verdict() {
     fi
 }
 
+# Says what of a test this machine cannot try, and why; .ci/run says it again ahead of its count.
+left_out() { echo "left out: $1: $2"; }
+
 # One case of a test with a folder $room: a run that ended with the status of the second word was to end with that of the third (0 where
 # there is none), to write, which is in $room/wrote, just what $room/wanted has, and to say on standard error, which is in $room/said, just
 # the fourth word (nothing where there is none).

@@ -27,6 +27,14 @@ wrongs() {
 
 # ---- the program and the package it is part of
 
+# The archives are for x86-64: elsewhere they can be refused, and no more.
+if [ "$(uname -m)" != x86_64 ]; then
+    bash host/compare.sh >"$room/wrote" 2>"$room/said"
+    judge_refusal "another machine is named" $? "compare: the archives are for x86-64, and this machine is not"
+    left_out "reader, writer, chooser and log against the independent implementation" "this machine is $(uname -m), and the archives are for x86-64"
+    exit $status
+fi
+
 # Built ahead of the case, so that it does not see it being built for the first time.
 [ -e target/staticlib/libtrial.a ] || bash host/compare.sh --help </dev/null >/dev/null 2>&1
 

@@ -1,146 +1,137 @@
 #!/usr/bin/env bash
-# The proved program drill against the independent implementation of host/independent: no difference on random scripts, and a difference is
-# found, and cut down, where there is one.
+# The program drill, built and run: its lessons, what it cannot read, the ends of its input, and the script at the root.
 set -u
 cd "$(dirname "${BASH_SOURCE[0]}")/../.." || exit 2
 . host/verdict.sh
 room=$(mktemp -d) || exit 2
 trap 'rm -rf "$room"' EXIT
-rehearse=target/independent/release/rehearse
 
-# Runs the program that compares with these words, under a limit of time, and leaves what it wrote and said, and its status, for `wrongs`.
-run() {
-    timeout 300 "$rehearse" "$@" >"$room/wrote" 2>"$room/said" </dev/null
-    ended=$?
+# Built ahead of the cases, so that none of them sees it being built.
+mapfile -t drill < <(bash host/program.sh --command drill </dev/null 2>/dev/null)
+[ ${#drill[@]} -gt 0 ] || drill=(false)
+
+# Plays the script $room/given.
+play() { "${drill[@]}" <"$room/given" >"$room/wrote" 2>"$room/said"; }
+
+# What a script without commands prints.
+echo >"$room/given"
+play
+cp "$room/wrote" "$room/nothing"
+
+# ---- lessons
+
+# Prints the text between the fences of docs/DRILL.md that follow the first line with this word.
+shown_in_page() { sed -n "/$1/,\$p" docs/DRILL.md | sed -n '/^```$/,/^```$/p' | sed '1d' | sed '/^```$/,$d'; }
+
+for script in samples/*.drill; do
+    cp "${script%.drill}.shown" "$room/wanted"
+    ./drill "$script" >"$room/wrote" 2>"$room/said"
+    judge "$script prints what is stored" $?
+done
+
+wrong=''
+for script in samples/*.drill; do
+    grep -q '^# Expected' "$script" || [ "$script" = samples/private-call.drill ] || wrong="$wrong $script"
+    grep -qF "$(basename "$script")" docs/DRILL.md || wrong="$wrong $script in docs/DRILL.md"
+done
+verdict "every lesson says what is to come of it, and docs/DRILL.md names it" "$wrong"
+
+cp samples/private-call.drill "$room/wanted"
+shown_in_page 'A worked script' >"$room/wrote"
+: >"$room/said"
+judge "docs/DRILL.md has the worked script as it stands in samples/" 0
+cmp -s crates/drill/stdin samples/private-call.drill && cmp -s crates/drill/stdout samples/private-call.shown
+verdict "the worked script is the stored run of the crate" "$([ $? -eq 0 ] || echo differs)"
+cp samples/private-call.shown "$room/wanted"
+shown_in_page 'It prints this' >"$room/wrote"
+judge "docs/DRILL.md shows what the worked script prints" 0
+
+# ---- what it cannot read
+
+# One case: a command that cannot be read, the second word, gets just the line of the third word; the next command is played.
+cannot_read() {
+    printf '%s\n\nb private end\n' "$2" >"$room/given"
+    play
+    local ended=$? step
+    step='3 b private 0 - P0 P0 - - - CFP1=0,CFP3=0,CFP4=0 identifier=0,caller=0,callee=0,commencement=0,media=0,pck-id=0x00000000 - 63'
+    { head -n 1 "$room/nothing" && echo "! line 1, column $3" && echo "$step" && tail -n +2 "$room/nothing"; } >"$room/wanted"
+    judge "not to be read: $1" $ended
 }
+cannot_read "a third cab" 'c private end' '1: a cab was expected, a or b'
+cannot_read "a cab alone" '  a' '4: settings, buffer, private, group, a timer, hears or chooses was expected'
+cannot_read "a command in capitals" 'a PRIVATE end' '3: settings, buffer, private, group, a timer, hears or chooses was expected'
+cannot_read "a private call that is left" 'a private leave' '11: start, end, accept, reject, record or cleared was expected'
+cannot_read "a group call that is ended" 'a group end' '9: start, accept, reject, leave, raise, record or cleared was expected'
+cannot_read "a timer that starts" 'a TFP1 starts' '8: expires was expected'
+cannot_read "a timer alone, ahead of a comment" 'a TFP1 # expires' '8: expires was expected'
+cannot_read "a line that is missing" 'a hears' '8: a line was expected'
+cannot_read "a name in the place of a line" 'a hears ended=no' '9: a line was expected'
+cannot_read "a second line that is missing" 'a chooses nothing ' '19: a line was expected'
+cannot_read "the line of a cab that has sent none" 'a hears b' '9: cab b has sent no line yet'
+cannot_read "a name of another command" 'a private start caller=7' '17: not a name that this command takes'
+cannot_read "a name without a value" 'a settings user' '12: not a name that this command takes'
+cannot_read "a name that comes twice" 'a settings user=7,user=8' '19: this name was given before'
+cannot_read "a number that is too large" 'a settings user=4294967296' '12: not a value of this name'
+cannot_read "a number that is far too large" 'a settings user=0x123456789abcdef0123456789' '12: not a value of this name'
+cannot_read "a number below 0" 'a settings user=-1' '12: not a value of this name'
+cannot_read "a digit that is none" 'a settings user=1a' '12: not a value of this name'
+cannot_read "no digits at all" 'a settings user=0x' '12: not a value of this name'
+cannot_read "a flag that is a number" 'a settings restrict=1' '12: not a value of this name'
+cannot_read "a state of the other machine" 'a private record state=S1' '18: not a value of this name'
+cannot_read "a state that there is not" 'a group record state=S2' '16: not a value of this name'
+cannot_read "a longer buffer than there is" 'a buffer length=129' '10: not a value of this name'
 
-# Prints what is wrong with the last run: its status is not that of the first word, or it said something on standard error.
-wrongs() {
-    [ $ended -eq "$1" ] || printf ' status %s' $ended
-    [ ! -s "$room/said" ] || printf ' said: %s' "$(head -n 1 "$room/said")"
-}
+printf '\ta  settings\tuser=0x0007,group=3\r\n# a comment\n   \na settings # nothing\n\na settings CFP1=255' >"$room/given"
+cp "$room/nothing" "$room/wanted"
+play
+judge "blanks of every kind, comments, empty lines and a last line without its end are read" $?
 
-# ---- the programs
+# What a step tells of counters and call may be copied into a script.
+record=$(awk '$1 == 11 && $3 == "private" { print $11 "," $12 }' samples/private-call.shown)
+printf 'a settings user=7\na private record state=P4 TFP5=yes %s\na private end\n' "$record" >"$room/given"
+play
+verdict "counters and call of a step can be copied into a record" \
+    "$(grep -q '^3 a private 0 R9 P4 P3 TFP5 TFP3 TFP3 CFP1=0,CFP3=1,CFP4=0 ' "$room/wrote" || sed -n 2p "$room/wrote")"
 
-# Built ahead of the case, so that it does not see them being built for the first time.
-[ -x "$rehearse" ] && [ -x target/bin/drill ] || bash host/rehearse.sh --help </dev/null >/dev/null 2>&1
+# ---- the ends of its input
 
-bash host/rehearse.sh --help >"$room/wrote" 2>"$room/said" </dev/null
-ended=$?
-verdict "host/rehearse.sh builds all it needs, and --help says how to call it" \
-    "$(wrongs 0; grep -q '^rehearse \[OPTIONS\] -- COMMAND' "$room/wrote" || echo "printed: $(head -n 1 "$room/wrote")")"
-# Without programs of this state there is nothing to try.
-[ $status -eq 0 ] || exit $status
-mapfile -t drill < <(bash host/program.sh --command drill)
+: >"$room/given"
+cp "$room/nothing" "$room/wanted"
+play
+judge "no input is a script without commands" $?
 
-# ---- no difference
+# Makes a script of so many bytes as the first word says: a comment, a line end, and the second word.
+script_of() { { printf '#' && head -c $(($1 - 2 - ${#2})) /dev/zero | tr '\0' ' ' && printf '\n%s' "$2"; } >"$room/given"; }
+cut='! the script has more than 65536 bytes: only the lines that end within them were played'
 
-# One case: a run from the seed of the second word finds no difference in 30,000 steps, and meets all it should; what it met is shown.
-agrees() {
-    run --seed "$2" --steps 30000 -- "${drill[@]}"
-    local wrong first last
-    wrong=$(wrongs 0)
-    first=$(head -n 1 "$room/wrote")
-    last=$(tail -n 1 "$room/wrote")
-    [ "$first" = "seed $2" ] || wrong="$wrong first: $first"
-    [[ $last =~ ^no\ difference:\ 3[0-9]{4}\ steps$ ]] || wrong="$wrong last: $last"
-    sed -n '/^steps/,/^  Group call: the cabs are in different/s/^/  /p' "$room/wrote"
-    # A difference is told whole, but in one line as every case is.
-    verdict "$1" "$wrong$(sed -n '/^DIFFERENCE/,$p; /^FAILED/p' "$room/wrote" | sed '1s/^/ /' | paste -s -d ';')"
-}
-agrees "drill and the independent implementation print the same for 30,000 steps" 1
-cp "$room/wrote" "$room/first"
-agrees "they print the same from another seed" 20261
+script_of 65536 'x'
+{ head -n 1 "$room/nothing" && echo '! line 2, column 1: a cab was expected, a or b' && tail -n +2 "$room/nothing"; } >"$room/wanted"
+play
+judge "65,536 bytes are played to the last, also without a line end" $?
+script_of 65537 $'x\n'
+{ head -n 1 "$room/nothing" && echo "$cut" && tail -n +2 "$room/nothing"; } >"$room/wanted"
+play
+judge "a line whose end is byte 65,537 is not played, and that is said" $?
+script_of 65538 $'x\n#\n'
+{ head -n 1 "$room/nothing" && echo '! line 2, column 1: a cab was expected, a or b' && echo "$cut" && tail -n +2 "$room/nothing"; } >"$room/wanted"
+play
+judge "a line whose end is byte 65,536 is played" $?
 
-run --seed 1 --steps 30000 -- "$rehearse" --play -
-wrong=$(wrongs 0)
-cmp -s "$room/first" "$room/wrote" || wrong="$wrong another run: $(cmp "$room/first" "$room/wrote" 2>&1 | sed "s|$room/||g")"
-"$rehearse" --seed 1 --script 1 >"$room/one" && "$rehearse" --seed 1 --script 1 >"$room/again"
-"$rehearse" --seed 2 --script 1 >"$room/other"
-[ -s "$room/one" ] && cmp -s "$room/one" "$room/again" || wrong="$wrong another script"
-! cmp -s "$room/one" "$room/other" || wrong="$wrong the script of another seed"
-verdict "the same seed gives the same scripts and the same counts, and another seed others" "$wrong"
+: >"$room/wrote"
+: >"$room/wanted"
+"${drill[@]}" <samples/private-call.drill >/dev/full 2>"$room/said"
+judge "an answer that cannot be written is named once" $? 0 "drill: the answer could not be written"
 
-# ---- a difference is found
+# ---- the script at the root
 
-# Prints the part of the last run's report that stands between the lines that begin with the two words.
-part() { sed -n "/^$1/,/^$2/p" "$room/wrote" | sed '1d;$d'; }
-
-# Prints what is wrong with the last report: no difference shown, or its script has more commands than the first word, or is not what the
-# two sides printed those answers to.
-report_wrongs() {
-    local lines
-    grep -qE '^DIFFERENCE: seed 1, script [1-9][0-9]*$' "$room/wrote" || printf ' no difference shown'
-    part 'the script, ' 'the program ' >"$room/script"
-    lines=$(wc -l <"$room/script")
-    [ "$lines" -ge 1 ] && [ "$lines" -le "$1" ] || printf ' a script of %s lines' "$lines"
-    part 'the program printed:' 'the independent ' >"$room/program"
-    sed '1,/^the independent /d' "$room/wrote" >"$room/independent"
-    "${drill[@]}" <"$room/script" | cmp -s - "$room/program" || printf ' the script shown is not the one that was played'
-    ! cmp -s "$room/program" "$room/independent" || printf ' not two transcripts shown'
-}
-
-# One case: with a slip of this name in the independent machines, a difference is found soon, and cut down to a few commands.
-finds() {
-    run --slip "$1" --steps 5000 -- "${drill[@]}"
-    verdict "the slip $1 is found, and cut down to at most four commands" "$(wrongs 1; report_wrongs 4)"
-}
-"$rehearse" --slips >"$room/slips"
-verdict "there are ten slips" "$([ "$(wc -l <"$room/slips")" -eq 10 ] || wc -l <"$room/slips")"
-while read -r name _; do
-    finds "$name"
-done <"$room/slips"
-
-# One case: a program that fails, the words from the third on, is told to fail as the second word says.
-fails() {
-    local name=$1 how=$2
-    shift 2
-    run --steps 1 -- "$@"
-    verdict "$name" "$(wrongs 1; grep -qxF "the program failed: $how" "$room/wrote" || echo " printed: $(grep '^the program' "$room/wrote")")"
-}
-fails "a program that ends with another status is told" 'it ended with status 3' sh -c 'cat >/dev/null; exit 3'
-# shellcheck disable=SC2016
-fails "a program that is ended by a signal is told" 'it was ended by signal 9' sh -c 'kill -9 $$'
-
-# ---- the independent player
-
-printf 'a private start identifier=5 callee=2 media=1\nb hears a' >"$room/given"
-"$rehearse" --play "$room/given" >"$room/wanted"
-"$rehearse" --play - <"$room/given" >"$room/wrote" 2>"$room/said"
-ended=$?
-[ "$(wc -l <"$room/wanted")" -eq 10 ] || echo "ten lines" >"$room/wanted"
-judge "a script from a file and from standard input is played alone" $ended
-
-# ---- bad usage
-
-# One case: the program, given the words from the third on, must refuse them, and say just the second word.
-refuses() {
-    local name=$1 line=$2
-    shift 2
-    run "$@"
-    judge_refusal "$name" $ended "rehearse: $line"
-}
-refuses "an option that there is not is named" 'no such option: "--step"; --help lists them' --step 5 -- true
-refuses "a seed that is no number is named" '--seed needs a number from 0 to 18446744073709551615, not "one"' --seed one -- true
-refuses "an option without its word is named" '--steps needs a word behind it' --seed 5 --steps -- true
-refuses "a slip that there is not is named" '--slip needs the name of a slip, not "none"; --slips lists them' --slip none -- true
-refuses "a run needs a command" 'no COMMAND: -- and what runs the program come last' --seed 5
-refuses "a play is of one script" 'too many words for --play' --play one two
-
-# One case: the last run must have ended with status 2, and said one line that starts with the second word.
-gives_up() {
-    local wrong=''
-    [ $ended -eq 2 ] || wrong="status $ended"
-    [ "$(wc -l <"$room/said")" -eq 1 ] || wrong="$wrong said $(wc -l <"$room/said") lines"
-    grep -q "^rehearse: $2: " "$room/said" || wrong="$wrong said: $(head -n 1 "$room/said")"
-    verdict "$1" "$wrong"
-}
-run --steps 5 -- "$room/none"
-gives_up "a command that cannot be run is told" "$room/none could not be run"
-run --play "$room/none"
-gives_up "a script that is not there is told" "$room/none could not be read"
-"$rehearse" --help >/dev/full 2>"$room/said" </dev/null
-ended=$?
-gives_up "an output that takes nothing is told" 'standard output could not be written'
+cp samples/old-timer.shown "$room/wanted"
+(cd samples && ../drill - <old-timer.drill) >"$room/wrote" 2>"$room/said"
+judge "standard input is played as the file is, from any folder" $?
+./drill "$room/none" >"$room/wrote" 2>"$room/said"
+judge_refusal "a script that is not there is named" $? "drill: $room/none: no such file"
+./drill samples/old-timer.drill twice >"$room/wrote" 2>"$room/said"
+judge_refusal "two scripts are one too many" $? "drill: usage: drill [SCRIPT]"
+./drill --help >"$room/wrote" 2>"$room/said"
+verdict "--help says how to call it" "$(grep -q '^drill \[SCRIPT\]: ' "$room/wrote" || echo "printed: $(head -n 1 "$room/wrote")")"
 
 exit $status

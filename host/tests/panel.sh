@@ -15,6 +15,15 @@ found=99
 
 # ---- header, archive, shell
 
+# The archive is for x86-64: elsewhere it can be refused, and no more.
+if [ "$(uname -m)" != x86_64 ]; then
+    bash host/panel.sh >"$room/wrote" 2>"$room/said"
+    judge_refusal "a compiler for another machine is named" $? \
+        "panel: the archive is for 64-bit x86 Linux, and cc compiles for $(cc -dumpmachine)"
+    left_out "the C entries, built and run" "this machine is $(uname -m), and the archive is for x86-64"
+    exit $status
+fi
+
 # Built ahead of the case, so that it does not see it being proved.
 bash host/panel.sh >/dev/null 2>&1
 CFLAGS='-Werror' bash host/panel.sh >"$room/wrote" 2>"$room/said"

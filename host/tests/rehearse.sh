@@ -1,0 +1,146 @@
+#!/usr/bin/env bash
+# The proved program drill against the independent implementation of host/independent: no difference on random scripts, and a difference is
+# found, and cut down, where there is one.
+set -u
+cd "$(dirname "${BASH_SOURCE[0]}")/../.." || exit 2
+. host/verdict.sh
+room=$(mktemp -d) || exit 2
+trap 'rm -rf "$room"' EXIT
+rehearse=target/independent/release/rehearse
+
+# Runs the program that compares with these words, under a limit of time, and leaves what it wrote and said, and its status, for `wrongs`.
+run() {
+    timeout 300 "$rehearse" "$@" >"$room/wrote" 2>"$room/said" </dev/null
+    ended=$?
+}
+
+# Prints what is wrong with the last run: its status is not that of the first word, or it said something on standard error.
+wrongs() {
+    [ $ended -eq "$1" ] || printf ' status %s' $ended
+    [ ! -s "$room/said" ] || printf ' said: %s' "$(head -n 1 "$room/said")"
+}
+
+# ---- the programs
+
+# Built ahead of the case, so that it does not see them being built for the first time.
+[ -x "$rehearse" ] && [ -x target/bin/drill ] || bash host/rehearse.sh --help </dev/null >/dev/null 2>&1
+
+bash host/rehearse.sh --help >"$room/wrote" 2>"$room/said" </dev/null
+ended=$?
+verdict "host/rehearse.sh builds all it needs, and --help says how to call it" \
+    "$(wrongs 0; grep -q '^rehearse \[OPTIONS\] -- COMMAND' "$room/wrote" || echo "printed: $(head -n 1 "$room/wrote")")"
+# Without programs of this state there is nothing to try.
+[ $status -eq 0 ] || exit $status
+mapfile -t drill < <(bash host/program.sh --command drill)
+
+# ---- no difference
+
+# One case: a run from the seed of the second word finds no difference in 30,000 steps, and meets all it should; what it met is shown.
+agrees() {
+    run --seed "$2" --steps 30000 -- "${drill[@]}"
+    local wrong first last
+    wrong=$(wrongs 0)
+    first=$(head -n 1 "$room/wrote")
+    last=$(tail -n 1 "$room/wrote")
+    [ "$first" = "seed $2" ] || wrong="$wrong first: $first"
+    [[ $last =~ ^no\ difference:\ 3[0-9]{4}\ steps$ ]] || wrong="$wrong last: $last"
+    sed -n '/^steps/,/^  Group call: the cabs are in different/s/^/  /p' "$room/wrote"
+    # A difference is told whole, but in one line as every case is.
+    verdict "$1" "$wrong$(sed -n '/^DIFFERENCE/,$p; /^FAILED/p' "$room/wrote" | sed '1s/^/ /' | paste -s -d ';')"
+}
+agrees "drill and the independent implementation print the same for 30,000 steps" 1
+cp "$room/wrote" "$room/first"
+agrees "they print the same from another seed" 20261
+
+run --seed 1 --steps 30000 -- "$rehearse" --play -
+wrong=$(wrongs 0)
+cmp -s "$room/first" "$room/wrote" || wrong="$wrong another run: $(cmp "$room/first" "$room/wrote" 2>&1 | sed "s|$room/||g")"
+"$rehearse" --seed 1 --script 1 >"$room/one" && "$rehearse" --seed 1 --script 1 >"$room/again"
+"$rehearse" --seed 2 --script 1 >"$room/other"
+[ -s "$room/one" ] && cmp -s "$room/one" "$room/again" || wrong="$wrong another script"
+! cmp -s "$room/one" "$room/other" || wrong="$wrong the script of another seed"
+verdict "the same seed gives the same scripts and the same counts, and another seed others" "$wrong"
+
+# ---- a difference is found
+
+# Prints the part of the last run's report that stands between the lines that begin with the two words.
+part() { sed -n "/^$1/,/^$2/p" "$room/wrote" | sed '1d;$d'; }
+
+# Prints what is wrong with the last report: no difference shown, or its script has more commands than the first word, or is not what the
+# two sides printed those answers to.
+report_wrongs() {
+    local lines
+    grep -qE '^DIFFERENCE: seed 1, script [1-9][0-9]*$' "$room/wrote" || printf ' no difference shown'
+    part 'the script, ' 'the program ' >"$room/script"
+    lines=$(wc -l <"$room/script")
+    [ "$lines" -ge 1 ] && [ "$lines" -le "$1" ] || printf ' a script of %s lines' "$lines"
+    part 'the program printed:' 'the independent ' >"$room/program"
+    sed '1,/^the independent /d' "$room/wrote" >"$room/independent"
+    "${drill[@]}" <"$room/script" | cmp -s - "$room/program" || printf ' the script shown is not the one that was played'
+    ! cmp -s "$room/program" "$room/independent" || printf ' not two transcripts shown'
+}
+
+# One case: with a slip of this name in the independent machines, a difference is found soon, and cut down to a few commands.
+finds() {
+    run --slip "$1" --steps 5000 -- "${drill[@]}"
+    verdict "the slip $1 is found, and cut down to at most four commands" "$(wrongs 1; report_wrongs 4)"
+}
+"$rehearse" --slips >"$room/slips"
+verdict "there are ten slips" "$([ "$(wc -l <"$room/slips")" -eq 10 ] || wc -l <"$room/slips")"
+while read -r name _; do
+    finds "$name"
+done <"$room/slips"
+
+# One case: a program that fails, the words from the third on, is told to fail as the second word says.
+fails() {
+    local name=$1 how=$2
+    shift 2
+    run --steps 1 -- "$@"
+    verdict "$name" "$(wrongs 1; grep -qxF "the program failed: $how" "$room/wrote" || echo " printed: $(grep '^the program' "$room/wrote")")"
+}
+fails "a program that ends with another status is told" 'it ended with status 3' sh -c 'cat >/dev/null; exit 3'
+# shellcheck disable=SC2016
+fails "a program that is ended by a signal is told" 'it was ended by signal 9' sh -c 'kill -9 $$'
+
+# ---- the independent player
+
+printf 'a private start identifier=5 callee=2 media=1\nb hears a' >"$room/given"
+"$rehearse" --play "$room/given" >"$room/wanted"
+"$rehearse" --play - <"$room/given" >"$room/wrote" 2>"$room/said"
+ended=$?
+[ "$(wc -l <"$room/wanted")" -eq 10 ] || echo "ten lines" >"$room/wanted"
+judge "a script from a file and from standard input is played alone" $ended
+
+# ---- bad usage
+
+# One case: the program, given the words from the third on, must refuse them, and say just the second word.
+refuses() {
+    local name=$1 line=$2
+    shift 2
+    run "$@"
+    judge_refusal "$name" $ended "rehearse: $line"
+}
+refuses "an option that there is not is named" 'no such option: "--step"; --help lists them' --step 5 -- true
+refuses "a seed that is no number is named" '--seed needs a number from 0 to 18446744073709551615, not "one"' --seed one -- true
+refuses "an option without its word is named" '--steps needs a word behind it' --seed 5 --steps -- true
+refuses "a slip that there is not is named" '--slip needs the name of a slip, not "none"; --slips lists them' --slip none -- true
+refuses "a run needs a command" 'no COMMAND: -- and what runs the program come last' --seed 5
+refuses "a play is of one script" 'too many words for --play' --play one two
+
+# One case: the last run must have ended with status 2, and said one line that starts with the second word.
+gives_up() {
+    local wrong=''
+    [ $ended -eq 2 ] || wrong="status $ended"
+    [ "$(wc -l <"$room/said")" -eq 1 ] || wrong="$wrong said $(wc -l <"$room/said") lines"
+    grep -q "^rehearse: $2: " "$room/said" || wrong="$wrong said: $(head -n 1 "$room/said")"
+    verdict "$1" "$wrong"
+}
+run --steps 5 -- "$room/none"
+gives_up "a command that cannot be run is told" "$room/none could not be run"
+run --play "$room/none"
+gives_up "a script that is not there is told" "$room/none could not be read"
+"$rehearse" --help >/dev/full 2>"$room/said" </dev/null
+ended=$?
+gives_up "an output that takes nothing is told" 'standard output could not be written'
+
+exit $status

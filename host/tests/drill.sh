@@ -46,6 +46,10 @@ cp samples/private-call.shown "$room/wanted"
 shown_in_page 'It prints this' >"$room/wrote"
 judge "docs/DRILL.md shows what the worked script prints" 0
 
+tail -n 2 samples/two-group-calls.shown >"$room/wanted"
+sed -n '/^## A drill/,/^## From C/p' README.md | sed -n '/^```$/,/^```$/p' | sed '1d;$d' >"$room/wrote"
+judge "the README shows how its script ends" 0
+
 # ---- what it cannot read
 
 # One case: a command that cannot be read, the second word, gets just the line of the third word; the next command is played.

@@ -7,8 +7,11 @@ room=$(mktemp -d) || exit 2
 trap 'rm -rf "$room"' EXIT
 
 # Built ahead of the cases, so that none of them sees it being built.
-mapfile -t drill < <(bash host/program.sh --command drill </dev/null 2>/dev/null)
-[ ${#drill[@]} -gt 0 ] || drill=(false)
+bash host/program.sh --command drill </dev/null >/dev/null 2>&1
+mapfile -t drill < <(bash host/program.sh --command drill 2>"$room/said" </dev/null)
+verdict "the program is proved and built" "$(cat "$room/said")"
+# Without it there is nothing to try.
+[ $status -eq 0 ] || exit $status
 
 # Plays the script $room/given.
 play() { "${drill[@]}" <"$room/given" >"$room/wrote" 2>"$room/said"; }
@@ -31,7 +34,7 @@ done
 
 wrong=''
 for script in samples/*.drill; do
-    grep -q '^# Expected' "$script" || [ "$script" = samples/private-call.drill ] || wrong="$wrong $script"
+    grep -q '^# Expected' "$script" || wrong="$wrong $script"
     grep -qF "$(basename "$script")" docs/DRILL.md || wrong="$wrong $script in docs/DRILL.md"
 done
 verdict "every lesson says what is to come of it, and docs/DRILL.md names it" "$wrong"
@@ -72,8 +75,8 @@ cannot_read "a line that is missing" 'a hears' '8: a line was expected'
 cannot_read "a name in the place of a line" 'a hears ended=no' '9: a line was expected'
 cannot_read "a second line that is missing" 'a chooses nothing ' '19: a line was expected'
 cannot_read "the line of a cab that has sent none" 'a hears b' '9: cab b has sent no line yet'
-cannot_read "a name of another command" 'a private start caller=7' '17: not a name that this command takes'
-cannot_read "a name without a value" 'a settings user' '12: not a name that this command takes'
+cannot_read "a name of another command" 'a private start caller=7' '17: NAME=VALUE was expected, with a name that this command takes'
+cannot_read "a name without a value" 'a settings user' '12: NAME=VALUE was expected, with a name that this command takes'
 cannot_read "a name that comes twice" 'a settings user=7,user=8' '19: this name was given before'
 cannot_read "a number that is too large" 'a settings user=4294967296' '12: not a value of this name'
 cannot_read "a number that is far too large" 'a settings user=0x123456789abcdef0123456789' '12: not a value of this name'
@@ -90,8 +93,13 @@ cp "$room/nothing" "$room/wanted"
 play
 judge "blanks of every kind, comments, empty lines and a last line without its end are read" $?
 
+printf 'b private start identifier=1 callee=1 media=1\nb hears a\na chooses b a\n' >"$room/given"
+play
+wrong=$(grep '^!' "$room/wrote" | diff - <(printf '! line %s: cab a has sent no line yet\n' '2, column 9' '3, column 13') | head -n 2)
+verdict "what cab b sent is no line of cab a" "$wrong"
+
 # What a step tells of counters and call may be copied into a script.
-record=$(awk '$1 == 11 && $3 == "private" { print $11 "," $12 }' samples/private-call.shown)
+record=$(awk '$1 == 12 && $3 == "private" { print $11 "," $12 }' samples/private-call.shown)
 printf 'a settings user=7\na private record state=P4 TFP5=yes %s\na private end\n' "$record" >"$room/given"
 play
 verdict "counters and call of a step can be copied into a record" \
@@ -107,6 +115,14 @@ judge "no input is a script without commands" $?
 # Makes a script of so many bytes as the first word says: a comment, a line end, and the second word.
 script_of() { { printf '#' && head -c $(($1 - 2 - ${#2})) /dev/zero | tr '\0' ' ' && printf '\n%s' "$2"; } >"$room/given"; }
 cut='! the script has more than 65536 bytes: only the lines that end within them were played'
+
+head -c 70000 /dev/zero | tr '\0' ' ' >"$room/given"
+{ head -n 1 "$room/nothing" && echo "$cut" && tail -n +2 "$room/nothing"; } >"$room/wanted"
+play
+judge "a script without a line end in its first 65,536 bytes is not played" $?
+{ head -c 40 samples/old-timer.drill && sleep 0.2 && tail -c +41 samples/old-timer.drill; } | "${drill[@]}" >"$room/wrote" 2>"$room/said"
+cp samples/old-timer.shown "$room/wanted"
+judge "a script that comes in pieces is put together" "${PIPESTATUS[1]}"
 
 script_of 65536 'x'
 { head -n 1 "$room/nothing" && echo '! line 2, column 1: a cab was expected, a or b' && tail -n +2 "$room/nothing"; } >"$room/wanted"

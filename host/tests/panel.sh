@@ -19,7 +19,7 @@ found=99
 if [ "$(uname -m)" != x86_64 ]; then
     bash host/panel.sh >"$room/wrote" 2>"$room/said"
     judge_refusal "a compiler for another machine is named" $? \
-        "panel: the archive is for 64-bit x86 Linux, and cc compiles for $(cc -dumpmachine)"
+        "panel: the archive is for 64-bit x86 Linux, and ${CC:-cc} compiles for $(${CC:-cc} -dumpmachine)"
     left_out "the C entries, built and run" "this machine is $(uname -m), and the archive is for x86-64"
     exit $status
 fi

@@ -108,7 +108,7 @@ impl Complaint {
             Complaint::Line => "a line was expected",
             Complaint::NoLineYet(Name::A) => "cab a has sent no line yet",
             Complaint::NoLineYet(Name::B) => "cab b has sent no line yet",
-            Complaint::Name => "not a name that this command takes",
+            Complaint::Name => "NAME=VALUE was expected, with a name that this command takes",
             Complaint::Twice => "this name was given before",
             Complaint::Value => "not a value of this name",
         }

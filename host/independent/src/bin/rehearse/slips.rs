@@ -27,23 +27,27 @@ type GroupStep = fn(&Case<group::Record>, &mut [u8]) -> Step<group::Record>;
 pub const SLIPS: [Slip; 10] = [
     in_private(
         "second-accept",
-        "a second accept sets CFP4 back to 1",
+        "an accept pressed again begins the count of CFP4 anew",
         second_accept,
     ),
-    in_private("tfp7-left", "TFP7 is left running into P5", tfp7_left),
+    in_private(
+        "tfp7-left",
+        "a call that comes in during P1 does not stop TFP7",
+        tfp7_left,
+    ),
     in_private(
         "r24-untimed",
-        "R24 enters P1 without its timer",
+        "after a bad signature nothing times P1",
         r24_untimed,
     ),
     in_private(
         "busy-users",
-        "BUSY is sent with the stored users",
+        "a caller who is turned away is told the users of the call that goes on",
         busy_users,
     ),
     in_private(
         "second-start",
-        "a second start press sets CFP1 back to 1",
+        "a start pressed again begins the count of CFP1 anew",
         second_start,
     ),
     in_private(
@@ -58,10 +62,14 @@ pub const SLIPS: [Slip; 10] = [
     ),
     in_group(
         "types-by-code",
-        "types are ranked by their code number",
+        "imminent peril goes ahead of emergency",
         types_by_code,
     ),
-    in_group("old-start", "a merge keeps the old start time", old_start),
+    in_group(
+        "old-start",
+        "a better call brings all but the time it began",
+        old_start,
+    ),
     in_group(
         "first-heard",
         "of two calls with the same rank and start the first heard stays",

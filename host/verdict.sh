@@ -33,3 +33,17 @@ judge_refusal() {
     : >"$room/wanted"
     judge "$1" "$2" 2 "$3"
 }
+
+# One case of a test with a folder $room: cargo, given the words from the third on, finds as many unit tests in the independent
+# implementation as the second word says, and all of them pass.
+unit_tests() {
+    local name=$1 tests=$2 wrong='' ended passed
+    shift 2
+    env -u CARGO_BUILD_TARGET STATICLIB="$(pwd -P)/target/staticlib" cargo test --release --offline --locked \
+        --manifest-path host/independent/Cargo.toml --target-dir target/independent "$@" >"$room/wrote" 2>"$room/said" </dev/null
+    ended=$?
+    passed=$(awk '/^test result: ok/ { passed += $4 } END { print passed + 0 }' "$room/wrote")
+    [ $ended -eq 0 ] || wrong="status $ended $(cat "$room/wrote" "$room/said" | grep -m 1 -e '^test .* FAILED' -e '^error')"
+    [ "$passed" -gt 0 ] && [ "$passed" -eq "$tests" ] || wrong="$wrong $passed of $tests tests passed"
+    verdict "$name" "$wrong"
+}

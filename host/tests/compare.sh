@@ -31,7 +31,8 @@ wrongs() {
 if [ "$(uname -m)" != x86_64 ]; then
     bash host/compare.sh >"$room/wrote" 2>"$room/said"
     judge_refusal "another machine is named" $? "compare: the archives are for x86-64, and this machine is not"
-    left_out "reader, writer, chooser and log against the independent implementation" "this machine is $(uname -m), and the archives are for x86-64"
+    left_out "reader, writer, chooser and log against the independent implementation, and the unit tests of the program compare" \
+        "this machine is $(uname -m), and the archives are for x86-64"
     exit $status
 fi
 
@@ -45,15 +46,7 @@ verdict "host/compare.sh builds all it needs, and --help says how to call it" \
 # Without a program of this state there is nothing to try.
 [ $status -eq 0 ] || exit $status
 
-env -u CARGO_BUILD_TARGET STATICLIB="$(pwd -P)/target/staticlib" cargo test --release --offline --locked \
-    --manifest-path host/independent/Cargo.toml --target-dir target/independent >"$room/wrote" 2>"$room/said" </dev/null
-ended=$?
-passed=$(awk '/^test result: ok/ { passed += $4 } END { print passed + 0 }' "$room/wrote")
-tests=$(grep -rhF '#[test]' host/independent/src | wc -l)
-wrong=''
-[ $ended -eq 0 ] || wrong="status $ended $(cat "$room/wrote" "$room/said" | grep -m 1 -e '^test .* FAILED' -e '^error')"
-[ "$passed" -gt 0 ] && [ "$passed" -eq "$tests" ] || wrong="$wrong $passed of $tests tests passed"
-verdict "all unit tests of the independent implementation pass" "$wrong"
+unit_tests "all unit tests of the program compare pass" "$(grep -rhF '#[test]' host/independent/src/bin/compare | wc -l)" --bin compare
 
 # Prints the functions for C that the two crates have, as Rust declares them: a lent slice is a pointer and a length.
 declared() {

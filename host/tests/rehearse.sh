@@ -33,6 +33,10 @@ verdict "host/rehearse.sh builds all it needs, and --help says how to call it" \
 [ $status -eq 0 ] || exit $status
 mapfile -t drill < <(bash host/program.sh --command drill)
 
+# Those of the program compare are host/tests/compare.sh's, since it needs the archives.
+unit_tests "all other unit tests of the independent implementation than those of compare pass" \
+    "$(grep -rhF --exclude-dir=compare '#[test]' host/independent/src | wc -l)" --lib --bin rehearse
+
 # ---- no difference
 
 # One case: a run from the seed of the second word finds no difference in 30,000 steps, and meets all it should; what it met is shown.
@@ -101,6 +105,15 @@ fails() {
 fails "a program that ends with another status is told" 'it ended with status 3' sh -c 'cat >/dev/null; exit 3'
 # shellcheck disable=SC2016
 fails "a program that is ended by a signal is told" 'it was ended by signal 9' sh -c 'kill -9 $$'
+
+# shellcheck disable=SC2016
+run --steps 1 -- sh -c 'echo "no room" >&2; exec "$0" --play -' "$rehearse"
+wrong=$(wrongs 1)
+said=$(part 'the program said on standard error:' 'the program printed:')
+[ "$said" = "no room" ] || wrong="$wrong shown: $said"
+[ -n "$(part 'the program printed:' 'the independent ')" ] || wrong="$wrong nothing printed"
+cmp -s <(part 'the program printed:' 'the independent ') <(sed '1,/^the independent /d' "$room/wrote") || wrong="$wrong another transcript"
+verdict "a program that prints what it should, but says something on standard error, is told with what it said" "$wrong"
 
 # ---- the independent player
 

@@ -87,15 +87,12 @@ fn rehearse(options: &Options, program: &Program) -> io::Result<bool> {
         }
     };
     say(&tally.table())?;
-    let missing = tally.missing().join("; ");
-    if missing.is_empty() {
-        say(&format!("no difference: {} steps", tally.steps))?;
-        return Ok(true);
+    let met = tally.verdict();
+    match &met {
+        Ok(good) => say(good)?,
+        Err(seldom) => say(seldom)?,
     }
-    say(&format!(
-        "FAILED: no difference, but not met often enough: {missing}"
-    ))?;
-    Ok(false)
+    Ok(met.is_ok())
 }
 
 /// Reads as much of a script as is needed to see that it is too long.

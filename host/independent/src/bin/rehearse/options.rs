@@ -38,6 +38,7 @@ rehearse --slips: lists the slips by their names
 rehearse --script N [--seed N]: writes the script of a seed that has this number, from 1
 rehearse --play FILE: writes what the independent implementation makes of a script; from standard input where FILE is -
 These three take no notice of a COMMAND. A difference is shown with its script, cut down to the words that are needed for it.
+A program that fails, or says anything on standard error, differs.
 Status: 0 no difference; 1 a difference, or a run of 10000 steps or more that did not meet each row, each number and each complaint about a
 command at least 20 times in 10000 steps, or something else too seldom; 2 bad usage or no way to read, to write or to run COMMAND
 ";
@@ -87,8 +88,7 @@ fn options(words: &[&str], command: Option<&[&str]>) -> Result<Task, String> {
         (Some(script), _) => Ok(Task::Script(options.seed, script)),
         (None, Some([first, rest @ ..])) => {
             let words = [first].into_iter().chain(rest).map(|word| word.to_string());
-            let words = words.collect();
-            Ok(Task::Rehearse(options, Program { words }))
+            Ok(Task::Rehearse(options, Program::new(words.collect())))
         }
         _ => Err("no COMMAND: -- and what runs the program come last".to_string()),
     }
@@ -121,8 +121,9 @@ mod tests {
     /// Every option is taken, and what is not given has the default that the help names.
     #[test]
     fn good_words() {
-        let program = |words: &[&str]| Program {
-            words: words.iter().map(|word| word.to_string()).collect(),
+        let program = |words: &[&str]| {
+            let words = words.iter().map(|word| word.to_string());
+            Program::new(words.collect())
         };
         let full = Options {
             seed: 1,

@@ -31,9 +31,15 @@ struct Played {
 }
 
 impl Played {
-    /// Tells whether the two sides differ, or the program failed.
+    /// Tells whether the two sides differ, or the program failed or said anything on standard error, for one
+    /// that has no status of its own can tell a failure only there.
     fn differs(&self) -> bool {
-        self.answer.failure.is_some() || self.answer.printed != self.independent
+        let Answer {
+            printed,
+            said,
+            failure,
+        } = &self.answer;
+        failure.is_some() || !said.is_empty() || *printed != self.independent
     }
 }
 
@@ -118,6 +124,9 @@ impl Rehearsal<'_> {
         report += &shown::lines(&shown.script);
         if let Some(failure) = &shown.answer.failure {
             report += &format!("the program failed: {failure}\n");
+        }
+        if !shown.answer.said.is_empty() {
+            report += "the program said on standard error:\n";
             report += &shown::lines(&shown.answer.said);
         }
         report += "the program printed:\n";
@@ -131,4 +140,31 @@ impl Rehearsal<'_> {
 /// Counts the lines of a script.
 fn lines_of(script: &[u8]) -> usize {
     script.split_inclusive(|&byte| byte == LINE_END).count()
+}
+
+#[cfg(test)]
+mod tests {
+    use super::*;
+
+    /// Another transcript, a failure and anything said are differences, each alone.
+    #[test]
+    fn differences() {
+        let differs = |printed: &str, said: &str, failure: Option<&str>| {
+            let answer = Answer {
+                printed: printed.into(),
+                said: said.into(),
+                failure: failure.map(str::to_string),
+            };
+            let played = Played {
+                script: b"a private end\n".to_vec(),
+                independent: b"1 a\n".to_vec(),
+                answer,
+            };
+            played.differs()
+        };
+        assert!(!differs("1 a\n", "", None));
+        assert!(differs("1 a", "", None));
+        assert!(differs("1 a\n", "x", None));
+        assert!(differs("1 a\n", "", Some("it ended with status 3")));
+    }
 }

@@ -117,7 +117,7 @@ impl Tally {
     }
 
     /// Lists what was not met often enough, if there were steps enough to meet it.
-    pub fn missing(&self) -> Vec<String> {
+    fn missing(&self) -> Vec<String> {
         if self.steps < ENOUGH {
             return Vec::new();
         }
@@ -129,6 +129,17 @@ impl Tally {
         missing
             .map(|count| format!("{} {} of {}", count.what, count.met, least(count)))
             .collect()
+    }
+
+    /// Says how a run without a difference ended: well, or with something met too seldom.
+    pub fn verdict(&self) -> Result<String, String> {
+        let missing = self.missing().join("; ");
+        if missing.is_empty() {
+            return Ok(format!("no difference: {} steps", self.steps));
+        }
+        Err(format!(
+            "FAILED: no difference, but not met often enough: {missing}"
+        ))
     }
 
     /// Gives one line for all of the run and one for each count.
@@ -171,5 +182,75 @@ fn count(what: String, least: Least) -> Count {
         what,
         met: 0,
         least,
+    }
+}
+
+#[cfg(test)]
+mod tests {
+    use super::*;
+
+    /// Gives the tally of so many steps, of which so many are of row R2 and all others of row R1.
+    fn of_steps(steps: usize, second: usize) -> Tally {
+        let first = "1 a private 0 R1 P0 P2\n".repeat(steps - second);
+        let second = "1 a private 0 R2 P2 P2\n".repeat(second);
+        let mut tally = Tally::new();
+        tally.add(0, (first + &second).as_bytes());
+        tally
+    }
+
+    /// Gives what a tally says of one count, if it was not met often enough.
+    fn said(tally: &Tally, what: &str) -> Option<String> {
+        let mut missing = tally.missing().into_iter();
+        missing.find(|line| line.starts_with(&format!("{what} ")))
+    }
+
+    /// From 10,000 steps on everything that never came is missed, and a run of one step less is asked for nothing.
+    #[test]
+    fn never_met() {
+        let short = of_steps(9_999, 0);
+        assert_eq!(short.verdict(), Ok("no difference: 9999 steps".to_string()));
+        let long = of_steps(10_000, 0);
+        let missing = long.missing();
+        // All but row R1 and number 0.
+        assert_eq!(missing.len(), long.counts.len() - 2);
+        for line in [
+            "row R2 0 of 20",
+            "row G11 0 of 20",
+            "number 10 0 of 20",
+            "unreadable, expires was expected 0 of 20",
+            "reader 5 0 of 10",
+            "chooser 10 0 of 10",
+            "script of more than 65536 bytes 0 of 1",
+            "Group call: both cabs are in the same call. 0 of 1",
+        ] {
+            assert!(missing.contains(&line.to_string()), "{line}");
+        }
+        let failed = "FAILED: no difference, but not met often enough: row R2 0 of 20; row R3";
+        assert!(long.verdict().is_err_and(|line| line.starts_with(failed)));
+    }
+
+    /// One time too few is missed, and the least grows with the steps.
+    #[test]
+    fn one_too_few() {
+        for (steps, least) in [(10_000, 20), (19_999, 39), (20_000, 40)] {
+            let line = format!("row R2 {} of {least}", least - 1);
+            assert_eq!(said(&of_steps(steps, least - 1), "row R2"), Some(line));
+            assert_eq!(said(&of_steps(steps, least), "row R2"), None);
+        }
+    }
+
+    /// Numbers of the reader are wanted half as often, and what a script has at most once only once.
+    #[test]
+    fn less_often() {
+        let mut tally = of_steps(20_000, 0);
+        tally.add(0, "1 a reader 3 -\n".repeat(19).as_bytes());
+        assert_eq!(
+            said(&tally, "reader 3").as_deref(),
+            Some("reader 3 19 of 20")
+        );
+        assert_eq!(said(&tally, TOO_LONG), Some(format!("{TOO_LONG} 0 of 1")));
+        tally.add(0, b"1 a reader 3 -\n! the script has more\n");
+        assert_eq!(said(&tally, "reader 3"), None);
+        assert_eq!(said(&tally, TOO_LONG), None);
     }
 }

@@ -1,5 +1,6 @@
 // What can be wrong with a command, and how it is told: each complaint is the number of its line in one text.
-use crate::text::put_named;
+use crate::text::empty;
+use crate::text::put_number;
 use crate::text::put_text;
 use crate::text::say;
 use crate::words::nth_line;
@@ -78,11 +79,9 @@ fn column(at: usize) -> u64 {
 
 // Tells what is wrong with the command of this number, at a place of its line; whether that could be written.
 pub(crate) fn complain(command: usize, complaint: usize, place: usize) -> bool {
-    let mut out = [0u8; 128];
     let words = WORDS;
-    let mut at = put_named(&mut out, 0, b"! line ", command as u64);
-    at = put_named(&mut out, at, b", column ", column(place));
-    at = put_text(&mut out, at, b": ");
-    at = put_text(&mut out, at, nth_line(&words, complaint));
-    say(&mut out, at)
+    let mut line = put_number(put_text(empty(), b"! line "), command as u64);
+    line = put_number(put_text(line, b", column "), column(place));
+    line = put_text(line, b": ");
+    say(put_text(line, nth_line(&words, complaint)))
 }

@@ -13,11 +13,8 @@ use crate::happenings::input_of;
 use crate::lists::take_names_of;
 use crate::names::unless_no;
 use crate::steps::take_step;
-use crate::telling::LONGEST;
-use crate::telling::put_command;
-use crate::text::put;
+use crate::telling::beginning;
 use crate::text::put_field;
-use crate::text::put_named;
 use crate::text::put_text;
 use crate::text::say;
 use crate::words::find;
@@ -28,6 +25,12 @@ use crate::words::word_at;
 use call::Event;
 use call::Input;
 use reader::Read;
+
+// The place of the reader in the list of who answers.
+const READER: usize = 2;
+
+// The place of the chooser there.
+const CHOOSER: usize = 3;
 
 // What is wrong with naming the last line of a cab: that there is none.
 fn sent_complaint(sent: &[u8; BOTH_LINES], cab: usize, none: usize) -> usize {
@@ -53,35 +56,51 @@ fn line_complaint(sent: &[u8; BOTH_LINES], word: &[u8]) -> usize {
     }
 }
 
-// The digits of the line that a word stands for, at the front of a buffer.
-fn put_digits(out: &mut [u8], sent: &[u8; BOTH_LINES], word: &[u8]) -> usize {
+// The digits of the line that a word stands for.
+fn digits_of<'a>(sent: &'a [u8; BOTH_LINES], word: &'a [u8]) -> &'a [u8] {
     match place_in(b"a b nothing", word) {
-        0 => put_text(out, 0, last_sent(sent, 0)),
-        1 => put_text(out, 0, last_sent(sent, 1)),
-        2 => 0,
-        _ => put_text(out, 0, word),
+        0 => last_sent(sent, 0),
+        1 => last_sent(sent, 1),
+        2 => part(word, 0, 0),
+        _ => word,
     }
 }
 
-// The line that a word stands for, at the front of a buffer, with its line end or without it; gives its length.
-fn put_line(out: &mut [u8], sent: &[u8; BOTH_LINES], word: &[u8], ended: bool) -> usize {
-    let end = put_digits(out, sent, word);
+// Puts a byte at a place of a buffer, if there is room; gives the place behind it.
+fn put_byte(out: &mut [u8], at: usize, byte: u8) -> usize {
+    if at < out.len() {
+        out[at] = byte;
+        return at + 1;
+    }
+    at
+}
+
+// Puts digits at the front of a buffer; gives the place behind them.
+fn put_digits(out: &mut [u8], digits: &[u8]) -> usize {
+    let mut end = 0;
+    let mut i = 0;
+    while i < digits.len() {
+        end = put_byte(out, end, digits[i]);
+        i += 1;
+    }
+    end
+}
+
+// The line with these digits, at the front of a buffer, with its line end or without it; gives its length.
+fn put_line(out: &mut [u8], digits: &[u8], ended: bool) -> usize {
+    let end = put_digits(out, digits);
     if ended {
-        return put(out, end, b'\n');
+        return put_byte(out, end, b'\n');
     }
     end
 }
 
 // Tells what the reader or the chooser answers, a number and perhaps a line; whether that could be written.
-fn tell_answer(command: usize, cab: usize, machine: &[u8], number: u8, chosen: &[u8]) -> bool {
-    let mut out = [0u8; LONGEST];
-    let mut at = put_command(&mut out, command, cab);
-    at = put_field(&mut out, at, machine);
-    at = put_named(&mut out, at, b" ", number as u64);
-    at = put_text(&mut out, at, b" - - - - - - -");
-    at = put_field(&mut out, at, chosen);
-    at = put_text(&mut out, at, b" - -");
-    say(&mut out, at)
+fn tell_answer(command: usize, cab: usize, machine: usize, number: u8, chosen: &[u8]) -> bool {
+    let mut line = beginning(command, cab, machine, number);
+    line = put_text(line, b" - - - - - - -");
+    line = put_field(line, chosen);
+    say(put_text(line, b" - -"))
 }
 
 // Has both machines of a cab take a step; whether all could be written.
@@ -113,7 +132,7 @@ fn hear(
             let input = input_of(Event::Message(message), media, named);
             take_both_steps(cabs, sent, cab, command, input)
         }
-        Read::Refused(number) => tell_answer(command, cab, b"reader", number, b""),
+        Read::Refused(number) => tell_answer(command, cab, READER, number, part(line, 0, 0)),
     }
 }
 
@@ -138,22 +157,22 @@ pub(crate) fn play_hears(
         return complain(command, fault.complaint, fault.at);
     }
     let mut heard = io::large_buffer();
-    let length = put_line(&mut heard, sent, word, unless_no(&named, 2));
+    let length = put_line(&mut heard, digits_of(sent, word), unless_no(&named, 2));
     hear(cabs, sent, cab, command, part(&heard, 0, length), &named)
 }
 
 // Has the chooser choose between the lines that two words stand for; whether its answer could be written.
-fn choose(
-    sent: &[u8; BOTH_LINES],
+fn choose<'a>(
+    sent: &'a [u8; BOTH_LINES],
     cab: usize,
     command: usize,
-    first: &[u8],
-    second: &[u8],
+    first: &'a [u8],
+    second: &'a [u8],
 ) -> bool {
     let mut one = io::large_buffer();
     let mut other = io::large_buffer();
-    let one_length = put_line(&mut one, sent, first, true);
-    let other_length = put_line(&mut other, sent, second, true);
+    let one_length = put_line(&mut one, digits_of(sent, first), true);
+    let other_length = put_line(&mut other, digits_of(sent, second), true);
     let one_line = part(&one, 0, one_length);
     let other_line = part(&other, 0, other_length);
     let number = chooser::choose_number(one_line, other_line);
@@ -161,18 +180,18 @@ fn choose(
     tell_answer(
         command,
         cab,
-        b"chooser",
+        CHOOSER,
         number,
         part(chosen, 0, find(chosen, 0, b'\n')),
     )
 }
 
 // Plays the command `chooses` from the words behind it; whether all could be written.
-pub(crate) fn play_chooses(
-    sent: &[u8; BOTH_LINES],
+pub(crate) fn play_chooses<'a>(
+    sent: &'a [u8; BOTH_LINES],
     cab: usize,
     command: usize,
-    line: &[u8],
+    line: &'a [u8],
     at: usize,
 ) -> bool {
     let first = next_word(line, at);

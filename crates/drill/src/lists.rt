@@ -12,15 +12,17 @@ use crate::commands::PRIVATE_START;
 use crate::commands::SETTINGS;
 use crate::complaints::Fault;
 use crate::names::take_names;
+use crate::text::Line;
+use crate::text::put;
 use crate::text::put_text;
 use crate::words::nth_line;
 use crate::words::nth_word;
 use crate::words::word_at;
 
 // The lists: none; the settings; the buffer; the private record; the group record; any step, with the two verdicts, which come
-// first in each of the rest; the starts of a private and of a group call; the raise; a line heard; and
-// the states of a private and of a group record, which have the place of their state in them.
-const LISTS: [u8; 550] = *b"
+// first in each of the rest; the starts of a private and of a group call; the raise; a line heard; the states of a private
+// and of a group record; the cabs; and who answers.
+const LISTS: [u8; 583] = *b"
 user group restrict acknowledgement CFP1 CFP3 CFP4
 length
 state TFP1 TFP2 TFP3 TFP4 TFP5 TFP7 CFP1 CFP3 CFP4 identifier caller callee commencement media pck-id
@@ -31,45 +33,38 @@ media-verdict signature-verdict identifier type refresh media confirm now
 media-verdict signature-verdict type now
 media-verdict signature-verdict ended
 P0 P1 P2 P3 P4 P5
-S1 S3 S4 S5";
+S1 S3 S4 S5
+a b
+private group reader chooser";
 
 // The number of the list of private records.
-const PRIVATE_LIST: usize = 3;
+pub(crate) const PRIVATE_LIST: usize = 3;
 
 // The number of the list of group records.
-const GROUP_LIST: usize = 4;
+pub(crate) const GROUP_LIST: usize = 4;
 
 // The number of the list of private states.
-const PRIVATE_STATES: usize = 10;
+pub(crate) const PRIVATE_STATES: usize = 10;
 
 // The number of the list of group states.
-const GROUP_STATES: usize = 11;
+pub(crate) const GROUP_STATES: usize = 11;
 
-// The name at a place of the list of private records, or of that of group records.
-pub(crate) fn put_name(out: &mut [u8], at: usize, private: bool, place: usize) -> usize {
-    put_from_list(out, at, either(private, PRIVATE_LIST, GROUP_LIST), place)
-}
+// The number of the list of cabs.
+pub(crate) const CABS: usize = 12;
 
-// The state at a place of the list of private states, or of that of group states.
-pub(crate) fn put_state_name(out: &mut [u8], at: usize, private: bool, place: usize) -> usize {
-    put_from_list(
-        out,
-        at,
-        either(private, PRIVATE_STATES, GROUP_STATES),
-        place,
-    )
-}
+// The number of the list of who answers: the two machines, the reader and the chooser.
+pub(crate) const MACHINES: usize = 13;
 
 // One of two numbers.
-fn either(first: bool, one: usize, other: usize) -> usize {
+pub(crate) fn either(first: bool, one: usize, other: usize) -> usize {
     if first { one } else { other }
 }
 
-// The word at a place of the list with this number.
-fn put_from_list(out: &mut [u8], at: usize, number: usize, place: usize) -> usize {
+// A byte, and the word at a place of the list with this number.
+pub(crate) fn put_word(line: Line, ahead: u8, number: usize, place: usize) -> Line {
     let lists = LISTS;
     let list = nth_line(&lists, number);
-    put_text(out, at, word_at(list, nth_word(list, place)))
+    put_text(put(line, ahead), word_at(list, nth_word(list, place)))
 }
 
 // The number of the list of names that a command takes.

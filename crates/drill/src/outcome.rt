@@ -8,6 +8,7 @@ use crate::records::group_of;
 use crate::records::private_numbers;
 use crate::records::private_of;
 use crate::telling::tell_record;
+use crate::text::empty;
 use crate::text::put_text;
 use crate::text::say;
 use crate::words::nth_line;
@@ -16,8 +17,8 @@ use crate::words::nth_line;
 fn tell_cab(cabs: &[u64; BOTH], cab: usize) -> bool {
     let private = private_numbers(private_of(cabs, cab));
     let group = group_numbers(group_of(cabs, cab));
-    let told = tell_record(cab, true, &private);
-    tell_record(cab, false, &group) & told
+    let told = tell_record(cab, true, private);
+    tell_record(cab, false, group) & told
 }
 
 // How the calls of two cabs may stand to each other, in words.
@@ -96,11 +97,8 @@ fn group_standing(cabs: &[u64; BOTH]) -> usize {
 
 // Tells how the calls stand to each other; whether that could be written.
 fn tell_standing(machine: &[u8], standing: usize) -> bool {
-    let mut out = [0u8; 128];
     let standings = STANDINGS;
-    let mut at = put_text(&mut out, 0, machine);
-    at = put_text(&mut out, at, nth_line(&standings, standing));
-    say(&mut out, at)
+    say(put_text(put_text(empty(), machine), nth_line(&standings, standing)))
 }
 
 // Tells how a shift ends; whether that could be written.

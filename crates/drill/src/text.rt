@@ -1,59 +1,86 @@
-// Text that is put together in a buffer, piece by piece: each function gives the place behind what it put.
+// A line of text that is put together piece by piece: each function gives the line with its piece behind it.
 use crate::words::part;
 use libc::STDOUT_FILENO;
 
-// One byte; nothing where the buffer is full.
-pub(crate) fn put(out: &mut [u8], at: usize, byte: u8) -> usize {
-    if at < out.len() {
-        out[at] = byte;
-        return at + 1;
+// More bytes than any line of the answer has.
+const LONGEST: usize = 1024;
+
+// A line, as far as it has been put together.
+pub(crate) struct Line {
+    pub(crate) bytes: [u8; LONGEST],
+    pub(crate) length: usize,
+}
+
+// A line without bytes.
+pub(crate) fn empty() -> Line {
+    Line {
+        bytes: [0u8; LONGEST],
+        length: 0,
     }
-    at
+}
+
+// One byte; nothing where the line is full.
+pub(crate) fn put(line: Line, byte: u8) -> Line {
+    let mut bytes = line.bytes;
+    let length = line.length;
+    if length < LONGEST {
+        bytes[length] = byte;
+        return Line {
+            bytes: bytes,
+            length: length + 1,
+        };
+    }
+    line
 }
 
 // A text.
-pub(crate) fn put_text(out: &mut [u8], at: usize, text: &[u8]) -> usize {
-    let mut place = at;
+pub(crate) fn put_text(line: Line, text: &[u8]) -> Line {
+    let mut bytes = line.bytes;
+    let mut end = line.length;
     let mut i = 0;
     while i < text.len() {
-        place = put(out, place, text[i]);
+        if end < LONGEST {
+            bytes[end] = text[i];
+            end += 1;
+        }
         i += 1;
     }
-    place
+    Line {
+        bytes: bytes,
+        length: end,
+    }
 }
 
-// A text with a blank ahead of it; `-` where it has no bytes.
-pub(crate) fn put_field(out: &mut [u8], at: usize, text: &[u8]) -> usize {
-    let place = put(out, at, b' ');
+// A field that has nothing.
+pub(crate) fn put_nothing(line: Line) -> Line {
+    put(put(line, b' '), b'-')
+}
+
+// A text, as a field; `-` where it has no bytes.
+pub(crate) fn put_field(line: Line, text: &[u8]) -> Line {
     if text.len() == 0 {
-        return put(out, place, b'-');
+        return put_nothing(line);
     }
-    put_text(out, place, text)
+    put_text(put(line, b' '), text)
 }
 
 // A number in decimal.
-pub(crate) fn put_number(out: &mut [u8], at: usize, number: u64) -> usize {
+pub(crate) fn put_number(line: Line, number: u64) -> Line {
     let mut digits = [0u8; 20];
     let count = io::decimal(number, &mut digits);
-    put_text(out, at, &digits[..count])
+    put_text(line, &digits[..count])
 }
 
-// A text, and a number in decimal behind it.
-pub(crate) fn put_named(out: &mut [u8], at: usize, text: &[u8], number: u64) -> usize {
-    let place = put_text(out, at, text);
-    put_number(out, place, number)
-}
-
-// `=` and a number in eight hexadecimal digits or more, as a script would have it.
-pub(crate) fn put_hexadecimal(out: &mut [u8], at: usize, number: u64) -> usize {
+// A number in eight hexadecimal digits or more, as a script would have it.
+pub(crate) fn put_hexadecimal(line: Line, number: u64) -> Line {
     let mut digits = [0u8; 16];
     let count = io::hex(number, 8, &mut digits);
-    let end = put_text(out, at, b"=0x");
-    put_text(out, end, &digits[..count])
+    put_text(put(put(line, b'0'), b'x'), &digits[..count])
 }
 
-// Writes the line that ends at a place, with a line end behind it; whether that could be done.
-pub(crate) fn say(out: &mut [u8], at: usize) -> bool {
-    let end = put(out, at, b'\n');
-    io::write_all(STDOUT_FILENO, part(out, 0, end))
+// Writes a line, with a line end behind it; whether that could be done.
+pub(crate) fn say(line: Line) -> bool {
+    let ended = put(line, b'\n');
+    let bytes = ended.bytes;
+    io::write_all(STDOUT_FILENO, part(&bytes, 0, ended.length))
 }

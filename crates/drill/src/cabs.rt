@@ -28,62 +28,92 @@ pub(crate) const PRIVATE: usize = 8;
 // Where a cab has its group record, in the order of its list.
 pub(crate) const GROUP: usize = 24;
 
-// The number that a cab has at a place from the first of a list on.
-pub(crate) fn value(cabs: &[u64; BOTH], cab: usize, first: usize, place: usize) -> u64 {
+// A shift: the numbers of both cabs, the last line of each, and whether all that was to be told could be written.
+pub(crate) struct Shift {
+    pub(crate) cabs: [u64; BOTH],
+    pub(crate) sent: [u8; BOTH_LINES],
+    pub(crate) written: bool,
+}
+
+// Where both cabs have the number at a place from the first of a cab's list on; BOTH where there is none.
+fn number_place(cab: usize, first: usize, place: usize) -> usize {
     if cab < 2 {
         if first < SIZE {
             if place < SIZE - first {
-                return cabs[cab * SIZE + first + place];
+                return cab * SIZE + first + place;
             }
         }
+    }
+    BOTH
+}
+
+// The number that a cab has at a place from the first of a list on.
+pub(crate) fn value(cabs: &[u64; BOTH], cab: usize, first: usize, place: usize) -> u64 {
+    let at = number_place(cab, first, place);
+    if at < BOTH {
+        return cabs[at];
     }
     0
 }
 
-// Gives a cab the number that it has at a place from the first of a list on.
-fn set(cabs: &mut [u64; BOTH], cab: usize, first: usize, place: usize, number: u64) {
-    if cab < 2 {
-        if first < SIZE {
-            if place < SIZE - first {
-                cabs[cab * SIZE + first + place] = number;
-            }
-        }
-    }
-}
-
-// Gives a cab the numbers that it has from the first of a list on, so many as there are names.
-pub(crate) fn set_all(
-    cabs: &mut [u64; BOTH],
+// The numbers with those that were told from the first of a cab's list on, each plus 1; where 0 was told, the old one is left.
+pub(crate) fn set_named(
+    cabs: [u64; BOTH],
     cab: usize,
     first: usize,
-    names: usize,
-    numbers: &[u64; 16],
-) {
-    let mut place = 0;
-    while place < 16 {
-        if place < names {
-            set(cabs, cab, first, place, numbers[place]);
-        }
-        place += 1;
-    }
-}
-
-// Gives a cab the values that were named of a list.
-pub(crate) fn set_named(cabs: &mut [u64; BOTH], cab: usize, first: usize, named: &[u64; 16]) {
+    named: [u64; 16],
+) -> [u64; BOTH] {
+    let mut changed = cabs;
     let mut place = 0;
     while place < 16 {
         let told = named[place];
+        let at = number_place(cab, first, place);
         if told > 0 {
-            set(cabs, cab, first, place, told - 1);
+            if at < BOTH {
+                changed[at] = told - 1;
+            }
         }
         place += 1;
     }
+    changed
+}
+
+// The numbers with others from the first of a cab's list on, so many as there are names.
+pub(crate) fn set_all(
+    cabs: [u64; BOTH],
+    cab: usize,
+    first: usize,
+    names: usize,
+    numbers: [u64; 16],
+) -> [u64; BOTH] {
+    let mut changed = cabs;
+    let mut place = 0;
+    while place < 16 {
+        let at = number_place(cab, first, place);
+        if place < names {
+            if at < BOTH {
+                changed[at] = numbers[place];
+            }
+        }
+        place += 1;
+    }
+    changed
 }
 
 // A cab at the start: user, group 1, neither flag, limits 3, a buffer of 63 bytes, and cleared records.
-pub(crate) fn begin(cabs: &mut [u64; BOTH], cab: usize, user: u64) {
+fn begin(cabs: [u64; BOTH], cab: usize, user: u64) -> [u64; BOTH] {
     let begun = [user, 1, 0, 0, 3, 3, 3, 63, 0, 0, 0, 0, 0, 0, 0, 0];
-    set_all(cabs, cab, SETTINGS, 8, &begun);
+    set_all(cabs, cab, SETTINGS, 8, begun)
+}
+
+// The shift at the start, and whether what is told ahead of it could be written.
+pub(crate) fn begun(written: bool) -> Shift {
+    let cabs = [0u64; BOTH];
+    Shift {
+        cabs: begin(begin(cabs, 0, 1), 1, 2),
+        sent: [0u8; BOTH_LINES],
+        written: written,
+    }
 }
 
 // Where the last line of a cab begins.
@@ -96,14 +126,20 @@ fn line_place(cab: usize) -> usize
     MOST_LENT
 }
 
-// Keeps the line at the front of a buffer as the last one of a cab.
-pub(crate) fn keep_sent(sent: &mut [u8; BOTH_LINES], cab: usize, lent: &[u8; MOST_LENT]) {
+// The last lines with the line at the front of a buffer as the last one of a cab.
+pub(crate) fn keep_sent(
+    sent: [u8; BOTH_LINES],
+    cab: usize,
+    lent: &[u8; MOST_LENT],
+) -> [u8; BOTH_LINES] {
     let first = line_place(cab);
+    let mut kept = sent;
     let mut i = 0;
     while i < MOST_LENT {
-        sent[first + i] = lent[i];
+        kept[first + i] = lent[i];
         i += 1;
     }
+    kept
 }
 
 // The last line of a cab, without its line end; no bytes where it has sent none.

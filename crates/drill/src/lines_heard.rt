@@ -1,6 +1,6 @@
 // A line heard, and the choice between two lines.
-use crate::cabs::BOTH;
 use crate::cabs::BOTH_LINES;
+use crate::cabs::Shift;
 use crate::cabs::last_sent;
 use crate::commands::CHOOSES;
 use crate::commands::HEARS;
@@ -103,62 +103,71 @@ fn tell_answer(command: usize, cab: usize, machine: usize, number: u8, chosen: &
     say(put_text(line, b" - -"))
 }
 
-// Has both machines of a cab take a step; whether all could be written.
-fn take_both_steps(
-    cabs: &mut [u64; BOTH],
-    sent: &mut [u8; BOTH_LINES],
-    cab: usize,
-    command: usize,
-    input: Input,
-) -> bool {
-    let written = take_step(cabs, sent, cab, command, true, input);
-    take_step(cabs, sent, cab, command, false, input) & written
+// Has both machines of a cab take a step.
+fn take_both_steps(shift: Shift, cab: usize, command: usize, input: Input) -> Shift {
+    let stepped = take_step(shift, cab, command, true, input);
+    take_step(stepped, cab, command, false, input)
 }
 
-// Has both machines of a cab take a step on a line, unless the reader refuses it; whether all could be written.
-fn hear(
-    cabs: &mut [u64; BOTH],
-    sent: &mut [u8; BOTH_LINES],
-    cab: usize,
-    command: usize,
-    line: &[u8],
-    named: &[u64; 16],
-) -> bool {
+// The shift behind an answer that was told, or could not be written.
+pub(crate) fn answered(shift: Shift, told: bool) -> Shift {
+    let cabs = shift.cabs;
+    let sent = shift.sent;
+    Shift {
+        cabs: cabs,
+        sent: sent,
+        written: shift.written & told,
+    }
+}
+
+// Has both machines of a cab take a step on a line, unless the reader refuses it.
+fn hear(shift: Shift, cab: usize, command: usize, line: &[u8], named: &[u64; 16]) -> Shift {
     let reading = reader::read_line(line);
     let media = reading.media;
     let read = reading.read;
     match read {
-        Read::Readable(message) => {
-            let input = input_of(Event::Message(message), media, named);
-            take_both_steps(cabs, sent, cab, command, input)
-        }
-        Read::Refused(number) => tell_answer(command, cab, READER, number, part(line, 0, 0)),
+        Read::Readable(message) => take_both_steps(
+            shift,
+            cab,
+            command,
+            input_of(Event::Message(message), media, named),
+        ),
+        Read::Refused(number) => answered(
+            shift,
+            tell_answer(command, cab, READER, number, part(line, 0, 0)),
+        ),
     }
 }
 
-// Plays the command `hears` from the words behind it; whether all could be written.
+// Has a cab hear the line that a word stands for.
+fn hear_word(shift: Shift, cab: usize, command: usize, word: &[u8], named: &[u64; 16]) -> Shift {
+    let sent = shift.sent;
+    let mut heard = io::large_buffer();
+    let length = put_line(&mut heard, digits_of(&sent, word), unless_no(named, 2));
+    hear(shift, cab, command, part(&heard, 0, length), named)
+}
+
+// Plays the command `hears` from the words behind it.
 pub(crate) fn play_hears(
-    cabs: &mut [u64; BOTH],
-    sent: &mut [u8; BOTH_LINES],
+    shift: Shift,
     cab: usize,
     command: usize,
     line: &[u8],
     at: usize,
-) -> bool {
+) -> Shift {
+    let sent = shift.sent;
     let next = next_word(line, at);
     let word = word_at(line, next);
-    let complaint = line_complaint(sent, word);
+    let complaint = line_complaint(&sent, word);
     if complaint != NOTHING {
-        return complain(command, complaint, next.from);
+        return answered(shift, complain(command, complaint, next.from));
     }
     let mut named = [0u64; 16];
     let fault = take_names_of(HEARS, line, next.to, &mut named);
     if fault.complaint != NOTHING {
-        return complain(command, fault.complaint, fault.at);
+        return answered(shift, complain(command, fault.complaint, fault.at));
     }
-    let mut heard = io::large_buffer();
-    let length = put_line(&mut heard, digits_of(sent, word), unless_no(&named, 2));
-    hear(cabs, sent, cab, command, part(&heard, 0, length), &named)
+    hear_word(shift, cab, command, word, &named)
 }
 
 // Has the chooser choose between the lines that two words stand for; whether its answer could be written.

@@ -14,9 +14,7 @@ mod telling;
 mod text;
 mod words;
 
-use cabs::BOTH;
-use cabs::BOTH_LINES;
-use cabs::begin;
+use cabs::begun;
 use libc::STDERR_FILENO;
 use libc::STDIN_FILENO;
 use libc::STDOUT_FILENO;
@@ -54,13 +52,12 @@ fn main() {
     let mut script = io::large_buffer();
     let length = io::read_full(STDIN_FILENO, &mut script);
     let cut = goes_on(length);
-    let mut cabs = [0u64; BOTH];
-    let mut sent = [0u8; BOTH_LINES];
-    begin(&mut cabs, 0, 1);
-    begin(&mut cabs, 1, 2);
-    let named = say_fields();
-    let played = named && playing::play(&script[..length], cut, &mut cabs, &mut sent);
-    if !(played && say_cut(cut) && outcome::tell_outcome(&cabs)) {
+    let mut shift = begun(say_fields());
+    if shift.written {
+        shift = playing::play(&script[..length], cut, shift);
+    }
+    let cabs = shift.cabs;
+    if !(shift.written && say_cut(cut) && outcome::tell_outcome(&cabs)) {
         io::write_all(STDERR_FILENO, b"drill: the answer could not be written\n");
     }
 }

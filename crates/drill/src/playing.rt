@@ -1,10 +1,10 @@
 // A script, line by line, and what each command does.
 use crate::cabs::BOTH;
-use crate::cabs::BOTH_LINES;
 use crate::cabs::GROUP;
 use crate::cabs::LENGTH;
 use crate::cabs::PRIVATE;
 use crate::cabs::SETTINGS;
+use crate::cabs::Shift;
 use crate::cabs::set_all;
 use crate::cabs::set_named;
 use crate::commands;
@@ -13,28 +13,30 @@ use crate::complaints::CAB;
 use crate::complaints::NOTHING;
 use crate::complaints::complain;
 use crate::happenings::input_named;
+use crate::lines_heard::answered;
 use crate::lines_heard::play_chooses;
 use crate::lines_heard::play_hears;
 use crate::lists::take_names_of;
 use crate::records::group_numbers;
 use crate::records::private_numbers;
 use crate::steps::take_step;
+use crate::words::NOWHERE;
 use crate::words::find;
 use crate::words::next_word;
 use crate::words::part;
 use crate::words::place_in;
 use crate::words::word_at;
 
-// Clears the private record of a cab.
-fn clear_private(cabs: &mut [u64; BOTH], cab: usize) {
+// The numbers of the cabs with the private record of a cab cleared.
+fn clear_private(cabs: [u64; BOTH], cab: usize) -> [u64; BOTH] {
     let cleared = private_numbers(private_record::states::cleared_record());
-    set_all(cabs, cab, PRIVATE, 16, &cleared);
+    set_all(cabs, cab, PRIVATE, 16, cleared)
 }
 
-// Clears the group record of a cab.
-fn clear_group(cabs: &mut [u64; BOTH], cab: usize) {
+// The numbers of the cabs with the group record of a cab cleared.
+fn clear_group(cabs: [u64; BOTH], cab: usize) -> [u64; BOTH] {
     let cleared = group_numbers(group_record::states::cleared_record());
-    set_all(cabs, cab, GROUP, 13, &cleared);
+    set_all(cabs, cab, GROUP, 13, cleared)
 }
 
 // Whether a command sets something by hand.
@@ -47,8 +49,8 @@ fn sets_by_hand(asked: usize) -> bool {
     }
 }
 
-// Sets by hand what a command asks to set, with the names that it gave.
-fn set_by_hand(cabs: &mut [u64; BOTH], cab: usize, asked: usize, named: &[u64; 16]) {
+// The numbers of the cabs with what a command sets by hand, by the names that it gave.
+fn set_by_hand(cabs: [u64; BOTH], cab: usize, asked: usize, named: [u64; 16]) -> [u64; BOTH] {
     match asked {
         commands::PRIVATE_CLEARED => clear_private(cabs, cab),
         commands::GROUP_CLEARED => clear_group(cabs, cab),
@@ -71,28 +73,31 @@ fn is_private(asked: usize) -> bool {
     (asked < commands::GROUP_START) | ((asked >= commands::TFP1) & (asked < commands::TFG2))
 }
 
-// Plays a command that takes names alone; whether all could be written.
+// Plays a command that takes names alone.
 fn play_named(
-    cabs: &mut [u64; BOTH],
-    sent: &mut [u8; BOTH_LINES],
+    shift: Shift,
     cab: usize,
     command: usize,
     asked: usize,
     line: &[u8],
     at: usize,
-) -> bool {
+) -> Shift {
     let mut named = [0u64; 16];
     let fault = take_names_of(asked, line, at, &mut named);
     if fault.complaint != NOTHING {
-        return complain(command, fault.complaint, fault.at);
+        return answered(shift, complain(command, fault.complaint, fault.at));
     }
     if sets_by_hand(asked) {
-        set_by_hand(cabs, cab, asked, &named);
-        return true;
+        let cabs = shift.cabs;
+        let sent = shift.sent;
+        return Shift {
+            cabs: set_by_hand(cabs, cab, asked, named),
+            sent: sent,
+            written: shift.written,
+        };
     }
     take_step(
-        cabs,
-        sent,
+        shift,
         cab,
         command,
         is_private(asked),
@@ -100,53 +105,38 @@ fn play_named(
     )
 }
 
-// Plays the command of a cab from the words behind the cab's name; whether all could be written.
-fn play_command(
-    cabs: &mut [u64; BOTH],
-    sent: &mut [u8; BOTH_LINES],
-    cab: usize,
-    command: usize,
-    line: &[u8],
-    at: usize,
-) -> bool {
+// Plays the command of a cab from the words behind the cab's name.
+fn play_command(shift: Shift, cab: usize, command: usize, line: &[u8], at: usize) -> Shift {
+    let sent = shift.sent;
     let read = command_in(line, at);
     if read.complaint != NOTHING {
-        return complain(command, read.complaint, read.at);
+        return answered(shift, complain(command, read.complaint, read.at));
     }
     let asked = read.asked;
     match asked {
-        commands::HEARS => play_hears(cabs, sent, cab, command, line, read.at),
-        commands::CHOOSES => play_chooses(sent, cab, command, line, read.at),
-        _ => play_named(cabs, sent, cab, command, asked, line, read.at),
+        commands::HEARS => play_hears(shift, cab, command, line, read.at),
+        commands::CHOOSES => answered(shift, play_chooses(&sent, cab, command, line, read.at)),
+        _ => play_named(shift, cab, command, asked, line, read.at),
     }
 }
 
-// Plays a line of the script, without its line end; whether all could be written.
-fn play_line(
-    cabs: &mut [u64; BOTH],
-    sent: &mut [u8; BOTH_LINES],
-    command: usize,
-    line: &[u8],
-) -> bool {
+// Plays a line of the script, without its line end.
+fn play_line(shift: Shift, command: usize, line: &[u8]) -> Shift {
     let first = next_word(line, 0);
     if first.from == first.to {
-        return true;
+        return shift;
     }
-    match place_in(b"a b", word_at(line, first)) {
-        0 => play_command(cabs, sent, 0, command, line, first.to),
-        1 => play_command(cabs, sent, 1, command, line, first.to),
-        _ => complain(command, CAB, first.from),
+    let cab = place_in(b"a b", word_at(line, first));
+    if cab == NOWHERE {
+        return answered(shift, complain(command, CAB, first.from));
     }
+    play_command(shift, cab, command, line, first.to)
 }
 
-// Plays every line of a script, but of a script that was cut not the piece that the cut left unended; whether all could
-// be written.
-pub(crate) fn play(
-    script: &[u8],
-    cut: bool,
-    cabs: &mut [u64; BOTH],
-    sent: &mut [u8; BOTH_LINES],
-) -> bool {
+// Plays every line of a script, as far as all can be written, but of a script that was cut not the piece that the cut left
+// unended.
+pub(crate) fn play(script: &[u8], cut: bool, shift: Shift) -> Shift {
+    let mut played = shift;
     let mut at = 0;
     let mut command = 0;
     while at < script.len() {
@@ -154,14 +144,15 @@ pub(crate) fn play(
         command += 1;
         if end >= script.len() {
             if cut {
-                return true;
+                return played;
             }
-            return play_line(cabs, sent, command, part(script, at, end));
+            return play_line(played, command, part(script, at, end));
         }
-        if !play_line(cabs, sent, command, part(script, at, end)) {
-            return false;
+        played = play_line(played, command, part(script, at, end));
+        if !played.written {
+            return played;
         }
         at = end + 1;
     }
-    true
+    played
 }

@@ -5,6 +5,7 @@ use crate::cabs::GROUP;
 use crate::cabs::LENGTH;
 use crate::cabs::MOST_LENT;
 use crate::cabs::PRIVATE;
+use crate::cabs::Shift;
 use crate::cabs::keep_sent;
 use crate::cabs::set_all;
 use crate::cabs::value;
@@ -113,30 +114,39 @@ fn step_on_front(
     step_on(cabs, cab, command, private, input, buffer)
 }
 
-// Keeps what a step told: the record, and the line where it sent one.
-fn keep(cabs: &mut [u64; BOTH], sent: &mut [u8; BOTH_LINES], step: Step, buffer: &[u8; MOST_LENT]) {
+// The numbers of the cabs behind a step.
+fn numbers_behind(cabs: [u64; BOTH], step: Step) -> [u64; BOTH] {
     let next = step.next;
     if step.private {
-        set_all(cabs, step.cab, PRIVATE, 16, &next);
-    } else {
-        set_all(cabs, step.cab, GROUP, 13, &next);
+        return set_all(cabs, step.cab, PRIVATE, 16, next);
     }
-    if step.length > 0 {
-        keep_sent(sent, step.cab, buffer);
-    }
+    set_all(cabs, step.cab, GROUP, 13, next)
 }
 
-// Takes a step of the private or of the group machine of a cab, and tells it; whether that could be written.
+// The last lines behind a step.
+fn lines_behind(sent: [u8; BOTH_LINES], step: Step, buffer: &[u8; MOST_LENT]) -> [u8; BOTH_LINES] {
+    if step.length > 0 {
+        return keep_sent(sent, step.cab, buffer);
+    }
+    sent
+}
+
+// Takes a step of the private or of the group machine of a cab, and tells it.
 pub(crate) fn take_step(
-    cabs: &mut [u64; BOTH],
-    sent: &mut [u8; BOTH_LINES],
+    shift: Shift,
     cab: usize,
     command: usize,
     private: bool,
     input: Input,
-) -> bool {
+) -> Shift {
+    let cabs = shift.cabs;
+    let sent = shift.sent;
     let mut buffer = [UNTOUCHED; MOST_LENT];
-    let step = step_on_front(cabs, cab, command, private, input, &mut buffer);
-    keep(cabs, sent, step, &buffer);
-    tell_step(step, part(&buffer, 0, length_of(cabs, cab)))
+    let step = step_on_front(&cabs, cab, command, private, input, &mut buffer);
+    let told = tell_step(step, part(&buffer, 0, length_of(&cabs, cab)));
+    Shift {
+        cabs: numbers_behind(cabs, step),
+        sent: lines_behind(sent, step, &buffer),
+        written: shift.written & told,
+    }
 }

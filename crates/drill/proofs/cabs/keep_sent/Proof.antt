@@ -5,10 +5,10 @@ use Rattle.drill.proofs.cabs.keep_sent.Statement.{statement}
 use Rattle.drill.proofs.cabs.keep_sent.Tie as tie
 
 abbrev Inv-loop : tie.InvT-loop
-Inv-loop sent₀ cab lent first i₀ sent i = Unit {0}
+Inv-loop cab lent first kept₀ i₀ kept i = Unit {0}
 
 abbrev μ-loop : tie.MeasureT-loop
-μ-loop sent₀ cab lent first i₀ sent i = 128 - i
+μ-loop cab lent first kept₀ i₀ kept i = 128 - i
 
 pub keep-sent-spec : {M : Type 1} → statement M
 keep-sent-spec =

@@ -5,10 +5,10 @@ use Rattle.drill.proofs.cabs.set_all.Statement.{statement}
 use Rattle.drill.proofs.cabs.set_all.Tie as tie
 
 abbrev Inv-loop : tie.InvT-loop
-Inv-loop cabs₀ cab first names numbers place₀ cabs place = Unit {0}
+Inv-loop cab first names numbers changed₀ place₀ changed place = Unit {0}
 
 abbrev μ-loop : tie.MeasureT-loop
-μ-loop cabs₀ cab first names numbers place₀ cabs place = 16 - place
+μ-loop cab first names numbers changed₀ place₀ changed place = 16 - place
 
 pub set-all-spec : {M : Type 1} → statement M
 set-all-spec =
@@ -17,9 +17,11 @@ set-all-spec =
     Inv-loop
     μ-loop
     (λ c. tt)
-    (λ c. omega arith)
-    (λ c. omega arith)
     (λ c κs. tt)
+    (λ c. omega arith)
+    (λ c. omega arith)
+    (λ c. omega arith)
+    (λ c. omega arith)
     (λ c. omega arith)
     (λ c. omega arith)
     (λ c. tt)

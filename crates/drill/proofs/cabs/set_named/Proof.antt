@@ -5,10 +5,10 @@ use Rattle.drill.proofs.cabs.set_named.Statement.{statement}
 use Rattle.drill.proofs.cabs.set_named.Tie as tie
 
 abbrev Inv-loop : tie.InvT-loop
-Inv-loop cabs₀ cab first named place₀ cabs place = Unit {0}
+Inv-loop cab first named changed₀ place₀ changed place = Unit {0}
 
 abbrev μ-loop : tie.MeasureT-loop
-μ-loop cabs₀ cab first named place₀ cabs place = 16 - place
+μ-loop cab first named changed₀ place₀ changed place = 16 - place
 
 pub set-named-spec : {M : Type 1} → statement M
 set-named-spec =
@@ -19,8 +19,10 @@ set-named-spec =
     (λ c. tt)
     (λ c. omega arith)
     (λ c. omega arith)
-    (λ c. omega arith)
     (λ c κs. tt)
+    (λ c. omega arith)
+    (λ c. omega arith)
+    (λ c. omega arith)
     (λ c. omega arith)
     (λ c. omega arith)
     (λ c. tt)

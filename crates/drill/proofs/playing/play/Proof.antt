@@ -6,10 +6,10 @@ use Rattle.drill.proofs.playing.play.Statement.{statement}
 use Rattle.drill.proofs.playing.play.Tie as tie
 
 abbrev Inv-loop : tie.InvT-loop
-Inv-loop script cut cabs₀ sent₀ at₀ command₀ cabs sent at command = command ≤ at
+Inv-loop script cut played₀ at₀ command₀ played at command = command ≤ at
 
 abbrev μ-loop : tie.MeasureT-loop
-μ-loop script cut cabs₀ sent₀ at₀ command₀ cabs sent at command = length script - at
+μ-loop script cut played₀ at₀ command₀ played at command = length script - at
 
 pub play-spec : {M : Type 1} → statement M
 play-spec =

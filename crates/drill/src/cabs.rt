@@ -56,6 +56,17 @@ pub(crate) fn value(cabs: &[u64; BOTH], cab: usize, first: usize, place: usize) 
     0
 }
 
+// The numbers that a cab has from the first of a list on.
+pub(crate) fn numbers_of(cabs: &[u64; BOTH], cab: usize, first: usize) -> [u64; 16] {
+    let mut numbers = [0u64; 16];
+    let mut place = 0;
+    while place < 16 {
+        numbers[place] = value(cabs, cab, first, place);
+        place += 1;
+    }
+    numbers
+}
+
 // The numbers with those that were told from the first of a cab's list on, each plus 1; where 0 was told, the old one is left.
 pub(crate) fn set_named(
     cabs: [u64; BOTH],

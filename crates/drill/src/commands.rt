@@ -140,21 +140,20 @@ fn expiry_in(line: &[u8], at: usize) -> Command {
 // The command that a line gives behind the name of the cab.
 pub(crate) fn command_in(line: &[u8], at: usize) -> Command {
     let next = next_word(line, at);
-    let private = b"start end accept reject record cleared";
-    let group = b"start accept reject leave raise record cleared";
-    match place_in(
+    let place = place_in(
         b"settings buffer hears chooses private group",
         word_at(line, next),
-    ) {
-        0..=3 => listed(
-            line,
-            at,
-            b"settings buffer hears chooses",
-            SETTINGS,
-            COMMAND,
-        ),
+    );
+    let private = b"start end accept reject record cleared";
+    let group = b"start accept reject leave raise record cleared";
+    match place {
         4 => listed(line, next.to, private, PRIVATE_START, PRIVATE_COMMAND),
         5 => listed(line, next.to, group, GROUP_START, GROUP_COMMAND),
-        _ => expiry_in(line, at),
+        NOWHERE => expiry_in(line, at),
+        _ => Command {
+            asked: place,
+            complaint: NOTHING,
+            at: next.to,
+        },
     }
 }

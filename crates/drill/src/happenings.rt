@@ -13,11 +13,11 @@ use crate::commands::TFP2;
 use crate::commands::TFP3;
 use crate::commands::TFP4;
 use crate::commands::TFP5;
-use crate::names::named_value;
-use crate::names::to_byte;
-use crate::names::to_number;
-use crate::names::to_pair;
+use crate::names::byte;
+use crate::names::number;
+use crate::names::pair;
 use crate::names::unless_no;
+use crate::names::values_of;
 use call::Action;
 use call::Event;
 use call::GroupAction;
@@ -45,19 +45,19 @@ pub(crate) fn input_of(event: Event, media: Media, named: &[u64; 16]) -> Input {
 }
 
 // The start of a private call.
-fn private_start(named: &[u64; 16]) -> PrivateAction {
+fn private_start(values: [u64; 16]) -> PrivateAction {
     PrivateAction::Start(PrivateStart {
-        identifier: to_pair(named_value(named, 2)),
-        callee: to_number(named_value(named, 3)),
-        commencement: to_byte(named_value(named, 4)),
-        pck_id: to_number(named_value(named, 6)),
+        identifier: pair(values, 2),
+        callee: number(values, 3),
+        commencement: byte(values, 4),
+        pck_id: number(values, 6),
     })
 }
 
 // What the user does with a private call.
-fn private_action(asked: usize, named: &[u64; 16]) -> PrivateAction {
+fn private_action(asked: usize, values: [u64; 16]) -> PrivateAction {
     match asked {
-        PRIVATE_START => private_start(named),
+        PRIVATE_START => private_start(values),
         PRIVATE_END => PrivateAction::End,
         PRIVATE_ACCEPT => PrivateAction::Accept,
         _ => PrivateAction::Reject,
@@ -77,32 +77,32 @@ fn private_timer(asked: usize) -> PrivateTimer {
 }
 
 // The start of a group call.
-fn group_start(named: &[u64; 16]) -> GroupAction {
+fn group_start(values: [u64; 16]) -> GroupAction {
     GroupAction::Start(GroupStart {
-        identifier: to_pair(named_value(named, 2)),
-        call_type: to_byte(named_value(named, 3)),
-        refresh: to_pair(named_value(named, 4)),
-        confirm: to_byte(named_value(named, 6)),
-        now: to_number(named_value(named, 7)),
+        identifier: pair(values, 2),
+        call_type: byte(values, 3),
+        refresh: pair(values, 4),
+        confirm: byte(values, 6),
+        now: number(values, 7),
     })
 }
 
 // The raise of a group call.
-fn group_raise(named: &[u64; 16]) -> GroupAction {
+fn group_raise(values: [u64; 16]) -> GroupAction {
     GroupAction::Raise(GroupRaise {
-        call_type: to_byte(named_value(named, 2)),
-        now: to_number(named_value(named, 3)),
+        call_type: byte(values, 2),
+        now: number(values, 3),
     })
 }
 
 // What the user does with a group call.
-fn group_action(asked: usize, named: &[u64; 16]) -> GroupAction {
+fn group_action(asked: usize, values: [u64; 16]) -> GroupAction {
     match asked {
-        GROUP_START => group_start(named),
+        GROUP_START => group_start(values),
         GROUP_ACCEPT => GroupAction::Accept,
         GROUP_REJECT => GroupAction::Reject,
         GROUP_LEAVE => GroupAction::Leave,
-        _ => group_raise(named),
+        _ => group_raise(values),
     }
 }
 
@@ -116,7 +116,7 @@ fn group_timer(asked: usize) -> GroupTimer {
 }
 
 // What a command makes happen to the machine that it names.
-fn event_of(asked: usize, named: &[u64; 16]) -> Event {
+fn event_of(asked: usize, values: [u64; 16]) -> Event {
     if asked >= TFG2 {
         return Event::Expiry(Timer::Group(group_timer(asked)));
     }
@@ -124,15 +124,16 @@ fn event_of(asked: usize, named: &[u64; 16]) -> Event {
         return Event::Expiry(Timer::Private(private_timer(asked)));
     }
     if asked >= GROUP_START {
-        return Event::Action(Action::Group(group_action(asked, named)));
+        return Event::Action(Action::Group(group_action(asked, values)));
     }
-    Event::Action(Action::Private(private_action(asked, named)))
+    Event::Action(Action::Private(private_action(asked, values)))
 }
 
 // The input of the machine that a command names: the starts of both calls name their media, the rest has none.
 pub(crate) fn input_named(asked: usize, named: &[u64; 16]) -> Input {
+    let values = values_of(named);
     let media = Media {
-        number: to_number(named_value(named, 5)),
+        number: number(values, 5),
     };
-    input_of(event_of(asked, named), media, named)
+    input_of(event_of(asked, values), media, named)
 }

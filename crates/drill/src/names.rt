@@ -8,6 +8,7 @@ use crate::words::NOWHERE;
 use crate::words::behind;
 use crate::words::find;
 use crate::words::next_word;
+use crate::words::nth_line;
 use crate::words::part;
 use crate::words::place_in;
 use crate::words::same;
@@ -19,25 +20,29 @@ const LARGEST: u64 = 4_294_967_295;
 // What stands for a number that is too large, and for what is no number.
 const TOO_LARGE: u64 = 4_294_967_296;
 
-// Whether the values of a name are yes and no.
-fn is_flag(name: &[u8]) -> bool {
-    let timer = place_in(b"TFP1 TFP2 TFP3 TFP4 TFP5 TFP7 TFG2 TFG4 TFG6", name);
-    let other = place_in(
-        b"restrict acknowledgement ended media-verdict signature-verdict",
-        name,
-    );
-    (timer != NOWHERE) | (other != NOWHERE)
+// The names by their values, a line each: states; yes and no; numbers up to 255; up to 65,535; up to 128. The rest are
+// numbers up to the largest.
+const KINDS: [u8; 180] = *b"state
+TFP1 TFP2 TFP3 TFP4 TFP5 TFP7 TFG2 TFG4 TFG6 restrict acknowledgement ended media-verdict signature-verdict
+commencement type confirm CFP1 CFP3 CFP4
+identifier refresh
+length";
+
+// Whether a name is of a kind, by the number of its line.
+fn is_of_kind(name: &[u8], kind: usize) -> bool {
+    let kinds = KINDS;
+    place_in(nth_line(&kinds, kind), name) != NOWHERE
 }
 
 // The largest number that a name takes.
 fn most_of(name: &[u8]) -> u64 {
-    if place_in(b"commencement type confirm CFP1 CFP3 CFP4", name) != NOWHERE {
+    if is_of_kind(name, 2) {
         return 255;
     }
-    if place_in(b"identifier refresh", name) != NOWHERE {
+    if is_of_kind(name, 3) {
         return 65_535;
     }
-    if same(name, b"length") {
+    if is_of_kind(name, 4) {
         return 128;
     }
     LARGEST
@@ -120,10 +125,10 @@ fn word_told(word: &[u8], list: &[u8]) -> u64 {
 
 // The value of a name, plus 1; 0 where the name cannot have it.
 fn value_told(name: &[u8], value: &[u8], states: &[u8]) -> u64 {
-    if same(name, b"state") {
+    if is_of_kind(name, 0) {
         return word_told(value, states);
     }
-    if is_flag(name) {
+    if is_of_kind(name, 1) {
         return word_told(value, b"no yes");
     }
     number_told(value, most_of(name))
@@ -178,15 +183,18 @@ pub(crate) fn take_names(
     Fault::NONE
 }
 
-// The value that was named, by the place of its name in the list; 0 where it was not.
-pub(crate) fn named_value(named: &[u64; 16], place: usize) -> u64 {
-    if place < 16 {
+// The values that were named, each at the place of its name in the list; 0 where it was not.
+pub(crate) fn values_of(named: &[u64; 16]) -> [u64; 16] {
+    let mut values = [0u64; 16];
+    let mut place = 0;
+    while place < 16 {
         let told = named[place];
         if told > 0 {
-            return told - 1;
+            values[place] = told - 1;
         }
+        place += 1;
     }
-    0
+    values
 }
 
 // Yes, unless no was named, by the place of the name in the list.
@@ -197,22 +205,30 @@ pub(crate) fn unless_no(named: &[u64; 16], place: usize) -> bool {
     true
 }
 
-// A value as a number of 32 bits.
-pub(crate) fn to_number(value: u64) -> u32 {
-    (value % 4_294_967_296) as u32
+// The number at a place of a list.
+fn value_at(values: [u64; 16], place: usize) -> u64 {
+    if place < 16 {
+        return values[place];
+    }
+    0
 }
 
-// A value as a number of 16 bits.
-pub(crate) fn to_pair(value: u64) -> u16 {
-    (value % 65_536) as u16
+// The same as a number of 32 bits.
+pub(crate) fn number(values: [u64; 16], place: usize) -> u32 {
+    (value_at(values, place) % 4_294_967_296) as u32
 }
 
-// A value as a number of 8 bits.
-pub(crate) fn to_byte(value: u64) -> u8 {
-    (value % 256) as u8
+// The same as a number of 16 bits.
+pub(crate) fn pair(values: [u64; 16], place: usize) -> u16 {
+    (value_at(values, place) % 65_536) as u16
 }
 
-// A value as yes or no.
-pub(crate) fn to_flag(value: u64) -> bool {
-    value == 1
+// The same as a number of 8 bits.
+pub(crate) fn byte(values: [u64; 16], place: usize) -> u8 {
+    (value_at(values, place) % 256) as u8
+}
+
+// The same as yes or no.
+pub(crate) fn flag(values: [u64; 16], place: usize) -> bool {
+    value_at(values, place) == 1
 }

@@ -2,11 +2,8 @@
 use crate::cabs::BOTH;
 use crate::cabs::GROUP;
 use crate::cabs::PRIVATE;
+use crate::cabs::numbers_of;
 use crate::cabs::value;
-use crate::records::group_numbers;
-use crate::records::group_of;
-use crate::records::private_numbers;
-use crate::records::private_of;
 use crate::telling::tell_record;
 use crate::text::empty;
 use crate::text::put_text;
@@ -15,10 +12,8 @@ use crate::words::nth_line;
 
 // Tells both records of a cab; whether that could be written.
 fn tell_cab(cabs: &[u64; BOTH], cab: usize) -> bool {
-    let private = private_numbers(private_of(cabs, cab));
-    let group = group_numbers(group_of(cabs, cab));
-    let told = tell_record(cab, true, private);
-    tell_record(cab, false, group) & told
+    let told = tell_record(cab, true, numbers_of(cabs, cab, PRIVATE));
+    tell_record(cab, false, numbers_of(cabs, cab, GROUP)) & told
 }
 
 // How the calls of two cabs may stand to each other, in words.
@@ -71,27 +66,21 @@ fn same_values(cabs: &[u64; BOTH], first: usize, from: usize, to: usize) -> bool
     true
 }
 
-// How the private calls stand to each other: a cab is in one in P4.
-fn private_standing(cabs: &[u64; BOTH]) -> usize {
-    let a = value(cabs, 0, PRIVATE, 0) == 4;
-    let b = value(cabs, 1, PRIVATE, 0) == 4;
+// How the calls stand to each other, by where the records begin, the place of the state of a cab that is in a call, the place
+// of the identifier, and the places where the call begins and ends.
+fn standing(
+    cabs: &[u64; BOTH],
+    first: usize,
+    state: u64,
+    identifier: usize,
+    from: usize,
+    to: usize,
+) -> usize {
     standing_of(
-        a,
-        b,
-        same_value(cabs, PRIVATE, 10),
-        same_values(cabs, PRIVATE, 10, 16),
-    )
-}
-
-// How the group calls stand to each other: a cab is in one in S3.
-fn group_standing(cabs: &[u64; BOTH]) -> usize {
-    let a = value(cabs, 0, GROUP, 0) == 1;
-    let b = value(cabs, 1, GROUP, 0) == 1;
-    standing_of(
-        a,
-        b,
-        same_value(cabs, GROUP, 5),
-        same_values(cabs, GROUP, 4, 13),
+        value(cabs, 0, first, 0) == state,
+        value(cabs, 1, first, 0) == state,
+        same_value(cabs, first, identifier),
+        same_values(cabs, first, from, to),
     )
 }
 
@@ -101,10 +90,10 @@ fn tell_standing(machine: &[u8], standing: usize) -> bool {
     say(put_text(put_text(empty(), machine), nth_line(&standings, standing)))
 }
 
-// Tells how a shift ends; whether that could be written.
+// Tells how a shift ends, where a cab is in a private call in P4 and in a group call in S3; whether that could be written.
 pub(crate) fn tell_outcome(cabs: &[u64; BOTH]) -> bool {
     let mut told = tell_cab(cabs, 0);
     told = tell_cab(cabs, 1) & told;
-    told = tell_standing(b"Private call: ", private_standing(cabs)) & told;
-    tell_standing(b"Group call: ", group_standing(cabs)) & told
+    told = tell_standing(b"Private call: ", standing(cabs, PRIVATE, 4, 10, 10, 16)) & told;
+    tell_standing(b"Group call: ", standing(cabs, GROUP, 1, 5, 4, 13)) & told
 }

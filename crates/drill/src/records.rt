@@ -3,11 +3,11 @@ use crate::cabs::BOTH;
 use crate::cabs::GROUP;
 use crate::cabs::PRIVATE;
 use crate::cabs::SETTINGS;
-use crate::cabs::value;
-use crate::names::to_byte;
-use crate::names::to_flag;
-use crate::names::to_number;
-use crate::names::to_pair;
+use crate::cabs::numbers_of;
+use crate::names::byte;
+use crate::names::flag;
+use crate::names::number;
+use crate::names::pair;
 use call::Counters;
 use call::Settings;
 use frame::GroupCall;
@@ -19,15 +19,16 @@ use private_record::states::PrivateRecord;
 
 // The settings of a cab.
 pub(crate) fn settings_of(cabs: &[u64; BOTH], cab: usize) -> Settings {
+    let numbers = numbers_of(cabs, cab, SETTINGS);
     Settings {
-        own_user: to_number(value(cabs, cab, SETTINGS, 0)),
-        own_group: to_number(value(cabs, cab, SETTINGS, 1)),
-        restrict: to_flag(value(cabs, cab, SETTINGS, 2)),
-        acknowledgement: to_flag(value(cabs, cab, SETTINGS, 3)),
+        own_user: number(numbers, 0),
+        own_group: number(numbers, 1),
+        restrict: flag(numbers, 2),
+        acknowledgement: flag(numbers, 3),
         limits: Counters {
-            cfp1: to_byte(value(cabs, cab, SETTINGS, 4)),
-            cfp3: to_byte(value(cabs, cab, SETTINGS, 5)),
-            cfp4: to_byte(value(cabs, cab, SETTINGS, 6)),
+            cfp1: byte(numbers, 4),
+            cfp3: byte(numbers, 5),
+            cfp4: byte(numbers, 6),
         },
     }
 }
@@ -44,45 +45,46 @@ fn private_state(place: u64) -> private_record::states::State {
     }
 }
 
-// The timers that run in a private record of a cab.
-fn private_running(cabs: &[u64; BOTH], cab: usize) -> private_record::states::Timers {
+// The timers that run in a private record, by its numbers.
+fn private_running(numbers: [u64; 16]) -> private_record::states::Timers {
     private_record::states::Timers {
-        tfp1: to_flag(value(cabs, cab, PRIVATE, 1)),
-        tfp2: to_flag(value(cabs, cab, PRIVATE, 2)),
-        tfp3: to_flag(value(cabs, cab, PRIVATE, 3)),
-        tfp4: to_flag(value(cabs, cab, PRIVATE, 4)),
-        tfp5: to_flag(value(cabs, cab, PRIVATE, 5)),
-        tfp7: to_flag(value(cabs, cab, PRIVATE, 6)),
+        tfp1: flag(numbers, 1),
+        tfp2: flag(numbers, 2),
+        tfp3: flag(numbers, 3),
+        tfp4: flag(numbers, 4),
+        tfp5: flag(numbers, 5),
+        tfp7: flag(numbers, 6),
     }
 }
 
-// The call of a private record of a cab.
-fn private_call_of(cabs: &[u64; BOTH], cab: usize) -> PrivateCall {
+// The call of a private record, by its numbers.
+fn private_call_of(numbers: [u64; 16]) -> PrivateCall {
     PrivateCall {
         parties: Parties {
-            identifier: to_pair(value(cabs, cab, PRIVATE, 10)),
-            caller: to_number(value(cabs, cab, PRIVATE, 11)),
-            callee: to_number(value(cabs, cab, PRIVATE, 12)),
+            identifier: pair(numbers, 10),
+            caller: number(numbers, 11),
+            callee: number(numbers, 12),
         },
-        commencement: to_byte(value(cabs, cab, PRIVATE, 13)),
+        commencement: byte(numbers, 13),
         media: Media {
-            number: to_number(value(cabs, cab, PRIVATE, 14)),
+            number: number(numbers, 14),
         },
-        pck_id: to_number(value(cabs, cab, PRIVATE, 15)),
+        pck_id: number(numbers, 15),
     }
 }
 
 // The private record of a cab.
 pub(crate) fn private_of(cabs: &[u64; BOTH], cab: usize) -> PrivateRecord {
+    let numbers = numbers_of(cabs, cab, PRIVATE);
     PrivateRecord {
-        state: private_state(value(cabs, cab, PRIVATE, 0)),
-        running: private_running(cabs, cab),
+        state: private_state(numbers[0]),
+        running: private_running(numbers),
         counters: Counters {
-            cfp1: to_byte(value(cabs, cab, PRIVATE, 7)),
-            cfp3: to_byte(value(cabs, cab, PRIVATE, 8)),
-            cfp4: to_byte(value(cabs, cab, PRIVATE, 9)),
+            cfp1: byte(numbers, 7),
+            cfp3: byte(numbers, 8),
+            cfp4: byte(numbers, 9),
         },
-        call: private_call_of(cabs, cab),
+        call: private_call_of(numbers),
     }
 }
 
@@ -96,32 +98,33 @@ fn group_state(place: u64) -> group_record::states::State {
     }
 }
 
-// The call of a group record of a cab, all but its media.
-fn group_call_of(cabs: &[u64; BOTH], cab: usize) -> GroupCall {
+// The call of a group record, by its numbers, all but its media.
+fn group_call_of(numbers: [u64; 16]) -> GroupCall {
     GroupCall {
-        group: to_number(value(cabs, cab, GROUP, 4)),
-        identifier: to_pair(value(cabs, cab, GROUP, 5)),
-        call_type: to_byte(value(cabs, cab, GROUP, 6)),
-        refresh: to_pair(value(cabs, cab, GROUP, 7)),
-        originator: to_number(value(cabs, cab, GROUP, 9)),
-        start: to_number(value(cabs, cab, GROUP, 10)),
-        last_change: to_number(value(cabs, cab, GROUP, 11)),
-        last_changer: to_number(value(cabs, cab, GROUP, 12)),
+        group: number(numbers, 4),
+        identifier: pair(numbers, 5),
+        call_type: byte(numbers, 6),
+        refresh: pair(numbers, 7),
+        originator: number(numbers, 9),
+        start: number(numbers, 10),
+        last_change: number(numbers, 11),
+        last_changer: number(numbers, 12),
     }
 }
 
 // The group record of a cab.
 pub(crate) fn group_of(cabs: &[u64; BOTH], cab: usize) -> GroupRecord {
+    let numbers = numbers_of(cabs, cab, GROUP);
     GroupRecord {
-        state: group_state(value(cabs, cab, GROUP, 0)),
+        state: group_state(numbers[0]),
         running: group_record::states::Timers {
-            tfg2: to_flag(value(cabs, cab, GROUP, 1)),
-            tfg4: to_flag(value(cabs, cab, GROUP, 2)),
-            tfg6: to_flag(value(cabs, cab, GROUP, 3)),
+            tfg2: flag(numbers, 1),
+            tfg4: flag(numbers, 2),
+            tfg6: flag(numbers, 3),
         },
-        call: group_call_of(cabs, cab),
+        call: group_call_of(numbers),
         media: Media {
-            number: to_number(value(cabs, cab, GROUP, 8)),
+            number: number(numbers, 8),
         },
     }
 }

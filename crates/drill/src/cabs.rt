@@ -67,7 +67,8 @@ pub(crate) fn numbers_of(cabs: &[u64; BOTH], cab: usize, first: usize) -> [u64; 
     numbers
 }
 
-// The numbers with those that were told from the first of a cab's list on, each plus 1; where 0 was told, the old one is left.
+// The numbers with those that were told from the first of a cab's list on, each plus 1; where 0 was told, the old one
+// is left.
 pub(crate) fn set_named(
     cabs: [u64; BOTH],
     cab: usize,

@@ -94,7 +94,8 @@ pub(crate) struct Command {
     pub(crate) at: usize,
 }
 
-// The command whose next word is at this place of a list, where the list's commands begin at a number; or the complaint.
+// The command whose next word is at this place of a list, where the list's commands begin at a number; or the
+// complaint.
 fn listed(line: &[u8], at: usize, list: &[u8], first: usize, complaint: usize) -> Command {
     let next = next_word(line, at);
     let place = place_in(list, word_at(line, next));

@@ -19,9 +19,9 @@ use crate::words::nth_line;
 use crate::words::nth_word;
 use crate::words::word_at;
 
-// The lists: none; the settings; the buffer; the private record; the group record; any step, with the two verdicts, which come
-// first in each of the rest; the starts of a private and of a group call; the raise; a line heard; the states of a private
-// and of a group record; the cabs; and who answers.
+// The lists: none; the settings; the buffer; the private record; the group record; any step, with the two verdicts,
+// which come first in each of the rest; the starts of a private and of a group call; the raise; a line heard; the
+// states of a private and of a group record; the cabs; and who answers.
 const LISTS: [u8; 583] = *b"
 user group restrict acknowledgement CFP1 CFP3 CFP4
 length

@@ -66,8 +66,8 @@ fn same_values(cabs: &[u64; BOTH], first: usize, from: usize, to: usize) -> bool
     true
 }
 
-// How the calls stand to each other, by where the records begin, the place of the state of a cab that is in a call, the place
-// of the identifier, and the places where the call begins and ends.
+// How the calls stand to each other, by where the records begin, the place of the state of a cab that is in a call,
+// the place of the identifier, and the places where the call begins and ends.
 fn standing(
     cabs: &[u64; BOTH],
     first: usize,
@@ -90,7 +90,8 @@ fn tell_standing(machine: &[u8], standing: usize) -> bool {
     say(put_text(put_text(empty(), machine), nth_line(&standings, standing)))
 }
 
-// Tells how a shift ends, where a cab is in a private call in P4 and in a group call in S3; whether that could be written.
+// Tells how a shift ends, where a cab is in a private call in P4 and in a group call in S3; whether that could be
+// written.
 pub(crate) fn tell_outcome(cabs: &[u64; BOTH]) -> bool {
     let mut told = tell_cab(cabs, 0);
     told = tell_cab(cabs, 1) & told;

@@ -133,8 +133,8 @@ fn play_line(shift: Shift, command: usize, line: &[u8]) -> Shift {
     play_command(shift, cab, command, line, first.to)
 }
 
-// Plays every line of a script, as far as all can be written, but of a script that was cut not the piece that the cut left
-// unended.
+// Plays every line of a script, as far as all can be written, but of a script that was cut not the piece that the cut
+// left unended.
 pub(crate) fn play(script: &[u8], cut: bool, shift: Shift) -> Shift {
     let mut played = shift;
     let mut at = 0;

@@ -30,8 +30,8 @@ const COUNTERS: usize = 1;
 // The call.
 const CALL: usize = 2;
 
-// A step of the private or of the group machine: the number of its command, its cab, the place of the state ahead of it,
-// and what it told: the record and the timers as numbers in the order of the record's list.
+// A step of the private or of the group machine: the number of its command, its cab, the place of the state ahead of
+// it, and what it told: the record and the timers as numbers in the order of the record's list.
 pub(crate) struct Step {
     pub(crate) command: usize,
     pub(crate) cab: usize,
@@ -45,8 +45,8 @@ pub(crate) struct Step {
     pub(crate) length: usize,
 }
 
-// The first four fields: the number of a command, its cab, by its place in the list of machines who answers, and the number
-// of the answer.
+// The first four fields: the number of a command, its cab, by its place in the list of machines who answers, and the
+// number of the answer.
 pub(crate) fn beginning(command: usize, cab: usize, machine: usize, number: u8) -> Line {
     let mut line = put_number(empty(), command as u64);
     line = put_word(line, b' ', CABS, cab);

@@ -42,7 +42,7 @@ pub(crate) const TWICE: usize = 10;
 pub(crate) const VALUE: usize = 11;
 
 // The complaints in words.
-const WORDS: [u8; 416] = *b"nothing
+const WORDS: [u8; 442] = *b"nothing
 a cab was expected, a or b
 settings, buffer, private, group, a timer, hears or chooses was expected
 start, end, accept, reject, record or cleared was expected
@@ -51,7 +51,7 @@ expires was expected
 a line was expected
 cab a has sent no line yet
 cab b has sent no line yet
-not a name that this command takes
+NAME=VALUE was expected, with a name that this command takes
 this name was given before
 not a value of this name";
 

@@ -119,14 +119,14 @@ pub(crate) fn nth_word(list: &[u8], place: usize) -> Place {
 pub(crate) fn find(text: &[u8], from: usize, byte: u8) -> usize
     ensures { λ r. ⌜ from ≤ r ⌝ }
 {
-    let mut at = from;
-    while at < text.len() {
-        if text[at] == byte {
-            return at;
+    let mut place = from;
+    while place < text.len() {
+        if text[place] == byte {
+            return place;
         }
-        at += 1;
+        place += 1;
     }
-    at
+    place
 }
 
 // The line of a text with this number, from 0 on, without its line end.

@@ -121,8 +121,9 @@ head -c 70000 /dev/zero | tr '\0' ' ' >"$room/given"
 play
 judge "a script without a line end in its first 65,536 bytes is not played" $?
 { head -c 40 samples/old-timer.drill && sleep 0.2 && tail -c +41 samples/old-timer.drill; } | "${drill[@]}" >"$room/wrote" 2>"$room/said"
+ended=${PIPESTATUS[1]}
 cp samples/old-timer.shown "$room/wanted"
-judge "a script that comes in pieces is put together" "${PIPESTATUS[1]}"
+judge "a script that comes in pieces is put together" "$ended"
 
 script_of 65536 'x'
 { head -n 1 "$room/nothing" && echo '! line 2, column 1: a cab was expected, a or b' && tail -n +2 "$room/nothing"; } >"$room/wanted"

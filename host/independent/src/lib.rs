@@ -8,6 +8,7 @@
 #![forbid(unsafe_code)]
 
 pub mod chooser;
+pub mod command;
 pub mod counter;
 pub mod drill;
 pub mod event;

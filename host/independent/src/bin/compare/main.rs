@@ -15,32 +15,21 @@ mod tally;
 mod words;
 mod writings;
 
+use independent::command::{self, named, put, say};
 use independent::random::Random;
 use independent::{log, making};
 use options::{Options, Task};
 use parts::PARTS;
-use std::env;
-use std::io::{self, Read, Write};
+use std::io::{self, Read};
 use std::process::ExitCode;
 
 /// Does what the words ask for, and says in one line why it could not.
 fn main() -> ExitCode {
-    let words: Vec<String> = env::args_os()
-        .skip(1)
-        .map(|word| word.to_string_lossy().into_owned())
-        .collect();
-    let done = match options::parse(&words) {
+    let done = match options::parse(&command::words()) {
         Ok(task) => done(&task).map_err(|error| error.to_string()),
         Err(wrong) => Err(wrong),
     };
-    match done {
-        Ok(good) => ExitCode::from(u8::from(!good)),
-        Err(wrong) => {
-            // Where not even this can be said, the status still tells.
-            let _ = writeln!(io::stderr(), "compare: {wrong}");
-            ExitCode::from(2)
-        }
-    }
+    command::end("compare", done)
 }
 
 /// Does a task, and tells whether all was as it should be.
@@ -90,21 +79,4 @@ fn compare(options: &Options) -> io::Result<bool> {
         ))?;
     }
     Ok(all_tried)
-}
-
-/// Writes a text and a line end to standard output, at once.
-fn say(text: &str) -> io::Result<()> {
-    put(format!("{text}\n").as_bytes())
-}
-
-/// Writes bytes to standard output, at once.
-fn put(bytes: &[u8]) -> io::Result<()> {
-    let mut out = io::stdout().lock();
-    let written = out.write_all(bytes).and_then(|()| out.flush());
-    written.map_err(|error| named("standard output could not be written", error))
-}
-
-/// Puts in front of an error what could not be done.
-fn named(what: &str, error: io::Error) -> io::Error {
-    io::Error::other(format!("{what}: {error}"))
 }

@@ -21,34 +21,23 @@ mod tally;
 mod turns;
 mod unreadable;
 
+use independent::command::{self, named, put, say};
 use independent::drill::{self, Machines};
 use options::{Options, Task};
 use program::Program;
 use rehearsal::{Ended, Rehearsal};
 use slips::SLIPS;
-use std::env;
 use std::fs::File;
-use std::io::{self, Read, Write};
+use std::io::{self, Read};
 use std::process::ExitCode;
 
 /// Does what the words ask for, and says in one line why it could not.
 fn main() -> ExitCode {
-    let words: Vec<String> = env::args_os()
-        .skip(1)
-        .map(|word| word.to_string_lossy().into_owned())
-        .collect();
-    let done = match options::parse(&words) {
+    let done = match options::parse(&command::words()) {
         Ok(task) => done(&task).map_err(|error| error.to_string()),
         Err(wrong) => Err(wrong),
     };
-    match done {
-        Ok(good) => ExitCode::from(u8::from(!good)),
-        Err(wrong) => {
-            // Where not even this can be said, the status still tells.
-            let _ = writeln!(io::stderr(), "rehearse: {wrong}");
-            ExitCode::from(2)
-        }
-    }
+    command::end("rehearse", done)
 }
 
 /// Does a task, and tells whether all was as it should be.
@@ -106,21 +95,4 @@ fn read(file: &str) -> io::Result<Vec<u8>> {
     };
     read.map_err(|error| named(&format!("{file} could not be read"), error))?;
     Ok(script)
-}
-
-/// Writes a text and a line end to standard output, at once.
-fn say(text: &str) -> io::Result<()> {
-    put(format!("{text}\n").as_bytes())
-}
-
-/// Writes bytes to standard output, at once.
-fn put(bytes: &[u8]) -> io::Result<()> {
-    let mut out = io::stdout().lock();
-    let written = out.write_all(bytes).and_then(|()| out.flush());
-    written.map_err(|error| named("standard output could not be written", error))
-}
-
-/// Puts in front of an error what could not be done.
-fn named(what: &str, error: io::Error) -> io::Error {
-    io::Error::other(format!("{what}: {error}"))
 }

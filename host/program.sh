@@ -30,7 +30,7 @@ program=$root/target/bin/$name
 # rt takes less than a second to see that nothing has changed, but it does not look for the program itself.
 if [ ! -x "$program" ]; then
     rm -f "$root/target/stamp/$name"
-    echo "$name: proving and building it first: a minute or two, once" >&2
+    echo "$name: proving and building it first: a few minutes, once" >&2
 fi
 (cd "$root" && "$rt" check "$name") </dev/null >/dev/null 2>&1 || fail "not proved or not built: rt check $name says why"
 

@@ -35,6 +35,17 @@ pub(crate) struct Shift {
     pub(crate) written: bool,
 }
 
+// The shift behind something that was told, or could not be written.
+pub(crate) fn answered(shift: Shift, told: bool) -> Shift {
+    let cabs = shift.cabs;
+    let sent = shift.sent;
+    Shift {
+        cabs: cabs,
+        sent: sent,
+        written: shift.written & told,
+    }
+}
+
 // Where both cabs have the number at a place from the first of a cab's list on; BOTH where there is none.
 fn number_place(cab: usize, first: usize, place: usize) -> usize {
     if cab < 2 {

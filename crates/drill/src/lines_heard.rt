@@ -1,6 +1,7 @@
 // A line heard, and the choice between two lines.
 use crate::cabs::BOTH_LINES;
 use crate::cabs::Shift;
+use crate::cabs::answered;
 use crate::cabs::last_sent;
 use crate::commands::CHOOSES;
 use crate::commands::HEARS;
@@ -107,17 +108,6 @@ fn tell_answer(command: usize, cab: usize, machine: usize, number: u8, chosen: &
 fn take_both_steps(shift: Shift, cab: usize, command: usize, input: Input) -> Shift {
     let stepped = take_step(shift, cab, command, true, input);
     take_step(stepped, cab, command, false, input)
-}
-
-// The shift behind an answer that was told, or could not be written.
-pub(crate) fn answered(shift: Shift, told: bool) -> Shift {
-    let cabs = shift.cabs;
-    let sent = shift.sent;
-    Shift {
-        cabs: cabs,
-        sent: sent,
-        written: shift.written & told,
-    }
 }
 
 // Has both machines of a cab take a step on a line, unless the reader refuses it.

@@ -36,6 +36,8 @@ use Rattle.panel.proofs.panel_choose_number.Reads as panel-choose-number
 use Rattle.trial.proofs.trial_value.Reads as trial-value
 use Rattle.trial.proofs.trial_write_line.Reads as trial-write-line
 use Rattle.trial.proofs.trial_answer_log.Reads as trial-answer-log
+use Rattle.pace.proofs.pace_private_steps.Reads as pace-private-steps
+use Rattle.pace.proofs.pace_group_steps.Reads as pace-group-steps
 use Rattle.demands.specs.OneAnswer.{OneAnswer}
 
 -- what equals the same thing is equal
@@ -183,3 +185,11 @@ trial-write-line-one κs = record { asksNothing = λ a. tt; oneResult = λ a r q
 -- the length of a log's answer, and the buffer, for C
 pub trial-answer-log-one : (κs : Lifetimes.Lfts 2) → OneAnswer (trial-answer-log.Asked κs) (trial-answer-log.Learnt κs) (λ r. r) (λ t. t .1 .0 .now)
 trial-answer-log-one κs = record { asksNothing = λ a. tt; oneResult = λ a r q s t x y. same (x .0) (y .0); oneExit = λ a r q s t x y. same (x .1) (y .1) }
+
+-- the steps of a script, by the private machine
+pub pace-private-steps-one : (κs : Lifetimes.Lfts 2) → OneAnswer (pace-private-steps.Asked κs) (pace-private-steps.Learnt κs) (λ r. r) (λ t. t .1 .0 .now)
+pace-private-steps-one κs = record { asksNothing = λ a. tt; oneResult = λ a r q s t x y. same (x .0) (y .0); oneExit = λ a r q s t x y. same (x .1) (y .1) }
+
+-- and by the group machine
+pub pace-group-steps-one : (κs : Lifetimes.Lfts 2) → OneAnswer (pace-group-steps.Asked κs) (pace-group-steps.Learnt κs) (λ r. r) (λ t. t .1 .0 .now)
+pace-group-steps-one κs = record { asksNothing = λ a. tt; oneResult = λ a r q s t x y. same (x .0) (y .0); oneExit = λ a r q s t x y. same (x .1) (y .1) }

@@ -1,0 +1,69 @@
+-- `pace::pace_private_steps` meets its contract: each turn is a step of the private machine. Assumes nothing.
+use Prim.Native.Nat.{_-_}
+use mathlib.Core.Path.{ap}
+use native.Mathlib.Omega.{arith}
+use lib.ListN.{length, getD}
+use Rattle.call.specs.declared.Settings.{Settings}
+use Rattle.call.specs.declared.Input.{Input}
+use Rattle.private_call.specs.Step.{stepOf, stepBuffer}
+use Rattle.private_call.specs.declared.Stepped.{Stepped}
+use Rattle.pace.specs.Script.{privateInput}
+use Rattle.pace.specs.Played.{privatePlay}
+use Rattle.pace.proofs.Turns.{SoFar, by-byte, begun, further, all-played}
+use borrow.Author.Needs.{needs}
+use Rattle.pace.proofs.pace_private_steps.Statement.{statement}
+use Rattle.pace.proofs.pace_private_steps.Tie as tie
+
+abbrev Inv-loop : tie.InvT-loop
+Inv-loop script lent stored₀ met₀ at₀ out stored met at = SoFar privatePlay script lent out stored met at
+
+abbrev μ-loop : tie.MeasureT-loop
+μ-loop script lent stored₀ met₀ at₀ out stored met at = length script - at
+
+loop-holds : tie.Need-loop-holds Inv-loop μ-loop
+loop-holds c =
+    let start = c .before .before .before .args in
+    begun privatePlay (start .script .now) (start .out .now) _ (c .cleared-record .ensures)
+
+loop-again : tie.Need-loop-again Inv-loop μ-loop
+loop-again c =
+    let stepped = c .before .before .before .before in
+    let input = stepped .before .before in
+    let crew = input .before .before in
+    let head = crew .before .before in
+    let start = head .before .before .before .before .args in
+    let p = head .loop .stored in
+    let out = head .loop .out in
+    let byte = getD (start .script .now) (head .loop .at) 0 in
+    let answered = by-byte (λ (s : Settings) (i : Input). stepOf s p i out) (privateInput byte) (stepped .step .ensures .0) (crew .crew .ensures) (input .private-input .ensures) in
+    let left = by-byte (λ (s : Settings) (i : Input). stepBuffer s p i out) (privateInput byte) (stepped .step .ensures .1) (crew .crew .ensures) (input .private-input .ensures) in
+    further privatePlay (start .script .now) (start .out .now) out p (head .loop .met) (head .loop .at) (head .loop .inv) (crew .before .loop-test .taken)
+    (stepped .step .result .row) (stepped .step .result .next) (stepped .step .last .1 .1 .1 .0)
+    (ap (λ (x : Stepped). x .row) answered) (ap (λ (x : Stepped). x .next) answered) left
+    (c .before .row-met .result) (c .before .row-met .ensures .0) (c .before .row-met .ensures .1) (omega arith)
+
+returns : tie.Need-returns Inv-loop μ-loop
+returns c =
+    let head = c .before in
+    let start = head .before .before .before .before .args in
+    all-played privatePlay (start .script .now) (start .out .now) (head .loop .out) (head .loop .stored) (head .loop .met) (head .loop .at) (head .loop .inv) (c .loop-test .left)
+
+pub pace-private-steps-spec : {M : Type 1} → statement M
+pace-private-steps-spec =
+    tie.close
+    (tie.spec
+    Inv-loop
+    μ-loop
+    (λ c κs. search needs)
+    loop-holds
+    (λ c κs. search needs)
+    (λ c. search needs)
+    (λ c κs. search needs)
+    (λ c κs. search needs)
+    (λ c κs. search needs)
+    (λ c. let head = c .before .before .before .before .before .before .before .before in omega (arith, head .before .loop .inv .0, head .loop-test .taken, c .row-met .ensures .1))
+    (λ c. let head = c .before .before .before .before .before .before .before .before in omega (arith, head .loop-test .taken, head .before .loop .inv .1))
+    (λ c. omega arith)
+    loop-again
+    (λ c. c .before .loop .inv .2)
+    returns)

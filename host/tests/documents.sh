@@ -57,20 +57,20 @@ done
 verdict "docs/PROMISES.md has every must-fail edit" "$wrong"
 
 wrong=''
-for page in docs/ROWS.md docs/PROMISES.md docs/DEMANDS.md; do
+for page in docs/ROWS.md docs/PROMISES.md docs/DEMANDS.md docs/SLIPS.md; do
     for name in $(quoted "$page" | grep -E '^[a-z_]+/[a-z0-9_]+$'); do
         edits | grep -qx "$name" || wrong="$wrong $page:$name"
     done
 done
-verdict "every edit that docs/ROWS.md, docs/PROMISES.md and docs/DEMANDS.md name is there" "$wrong"
+verdict "every edit that docs/ROWS.md, docs/PROMISES.md, docs/DEMANDS.md and docs/SLIPS.md name is there" "$wrong"
 
 wrong=''
-for page in docs/ROWS.md docs/PROMISES.md docs/DEMANDS.md; do
+for page in docs/ROWS.md docs/PROMISES.md docs/DEMANDS.md docs/SLIPS.md; do
     for name in $(quoted "$page" | grep -E '^[A-Za-z][A-Za-z0-9_:·-]*$' | sed 's/.*:://'); do
         grep -rqwF -- "$name" crates .ci || wrong="$wrong $page:$name"
     done
 done
-verdict "every name that docs/ROWS.md, docs/PROMISES.md and docs/DEMANDS.md cite stands in a crate" "$wrong"
+verdict "every name that docs/ROWS.md, docs/PROMISES.md, docs/DEMANDS.md and docs/SLIPS.md cite stands in a crate" "$wrong"
 
 wrong=''
 for page in README.md docs/*.md; do
@@ -79,6 +79,60 @@ for page in README.md docs/*.md; do
     done
 done
 verdict "every link of README.md and docs/ leads somewhere" "$wrong"
+
+# ---- docs/SLIPS.md
+
+# Prints the text of one slip, by its number.
+slip() { sed -n "/^## $1\\. /,/^## /p" docs/SLIPS.md | sed '1!{/^## /d}'; }
+
+# Prints LABEL FILE for each link whose label is in backquotes and whose file has the ending of the second word.
+named_links() { grep -o "\[\`[^\`]*\`\]([^)]*\.$2)" <<<"$1" | sed 's|\[`\(.*\)`\](\.\./\(.*\))|\1 \2|'; }
+
+# Prints the lines of a text that stand between fences.
+fenced() { sed -n '/^```$/,/^```$/p' <<<"$1" | grep -v '^```$'; }
+
+wrong=''
+[ "$(grep -c '^## ' docs/SLIPS.md)" -eq 7 ] || wrong=' not seven'
+for n in {1..7}; do
+    text=$(slip "$n")
+    for part in 'In the cab' 'The slip' 'The row' 'The theorem' 'The edit' 'The drill' 'The second implementation'; do
+        [ "$(grep -cF "**$part.**" <<<"$text")" -eq 1 ] || wrong="$wrong $n:$part"
+    done
+    [ -n "$(named_links "$text" antt)" ] || wrong="$wrong $n:theorem"
+    [ -n "$(named_links "$text" edit)" ] || wrong="$wrong $n:edit"
+    [ -n "$(fenced "$text")" ] || wrong="$wrong $n:excerpt"
+    for command in '\./drill samples/' 'bash host/rehearse\.sh --slip '; do
+        [ "$(grep -c "^    $command" <<<"$text")" -eq 1 ] || wrong="$wrong $n:$command"
+    done
+    anchor=$(head -n 1 <<<"$text" | sed 's/^## //; s/[^A-Za-z0-9 -]//g; s/ /-/g' | tr '[:upper:]' '[:lower:]')
+    grep -qF "](#$anchor)" docs/SLIPS.md || wrong="$wrong $n:#$anchor"
+done
+verdict "docs/SLIPS.md tells seven slips in one form, and its table leads to each" "$wrong"
+
+wrong=''
+while read -r name file; do
+    grep -qE "^ *(abbrev |unfoldable )?pub $name : " "$file" || wrong="$wrong $name:$file"
+done < <(named_links "$(cat docs/SLIPS.md)" antt)
+while read -r name file; do
+    [ "$file" = "crates/${name%/*}/must-fail/${name#*/}.edit" ] && [ -f "$file" ] || wrong="$wrong $name:$file"
+done < <(named_links "$(cat docs/SLIPS.md)" edit)
+verdict "every theorem and every edit of docs/SLIPS.md stands in the file linked" "$wrong"
+
+wrong=''
+for n in {1..7}; do
+    text=$(slip "$n")
+    mapfile -t files < <(grep -o '](\.\./[^)]*\.antt)' <<<"$text" | sed 's|](\.\./\(.*\))|\1|')
+    while read -r line; do
+        grep -qhF -- "$line" "${files[@]}" || wrong="$wrong $n:$line"
+    done < <(sed -n 's/^    //p' <<<"$text" | grep -vE '^(\./drill|bash) ')
+    script=$(sed -n 's/^    \.\/drill //p' <<<"$text")
+    while read -r line; do
+        grep -qxF -- "$line" "${script%.drill}.shown" || wrong="$wrong $n:$line"
+    done < <(fenced "$text")
+done
+verdict "every clause that docs/SLIPS.md shows stands in a file linked, and every excerpt in what its script prints" "$wrong"
+
+# ---- the sources
 
 wrong=$(find crates host -type f | grep -E '\.(rt|antt|c|h|rs|sh)$' | xargs wc -l | awk '$2 != "total" && $1 >= 300 { print $2 }')
 verdict "no source file has 300 lines" "$wrong"

@@ -94,6 +94,11 @@ verdict "there are ten slips" "$([ "$(wc -l <"$room/slips")" -eq 10 ] || wc -l <
 while read -r name _; do
     finds "$name"
 done <"$room/slips"
+wrong=''
+for name in $(sed -n 's/^    bash host\/rehearse\.sh --slip //p' docs/SLIPS.md); do
+    grep -q "^$name " "$room/slips" || wrong="$wrong $name"
+done
+verdict "every slip that docs/SLIPS.md puts in is one of them" "$wrong"
 
 # One case: a program that fails, the words from the third on, is told to fail as the second word says.
 fails() {

@@ -101,13 +101,15 @@ for n in {1..7}; do
     [ -n "$(named_links "$text" antt)" ] || wrong="$wrong $n:theorem"
     [ -n "$(named_links "$text" edit)" ] || wrong="$wrong $n:edit"
     [ -n "$(fenced "$text")" ] || wrong="$wrong $n:excerpt"
-    for command in '\./drill samples/' 'bash host/rehearse\.sh --slip '; do
-        [ "$(grep -c "^    $command" <<<"$text")" -eq 1 ] || wrong="$wrong $n:$command"
-    done
+    script=$(sed -n 's/^    \.\/drill //p' <<<"$text")
+    name=$(sed -n 's/^    bash host\/rehearse\.sh --slip \([^ ]*\)$/\1/p' <<<"$text")
+    [[ $script =~ ^samples/[a-z-]+\.drill$ && $name =~ ^[a-z0-9-]+$ ]] || wrong="$wrong $n:$script:$name"
+    commands=$(printf '%s\n' "./drill $script" "bash host/rehearse.sh --slip $name" "bash host/rehearse.sh --slip $name --play $script")
+    [ "$(sed -n 's/^    //p' <<<"$text" | grep -E '^(\./drill|bash) ')" = "$commands" ] || wrong="$wrong $n:commands"
     anchor=$(head -n 1 <<<"$text" | sed 's/^## //; s/[^A-Za-z0-9 -]//g; s/ /-/g' | tr '[:upper:]' '[:lower:]')
     grep -qF "](#$anchor)" docs/SLIPS.md || wrong="$wrong $n:#$anchor"
 done
-verdict "docs/SLIPS.md tells seven slips in one form, and its table leads to each" "$wrong"
+verdict "docs/SLIPS.md tells seven slips in one form, each with its script in the same three commands, and its table leads to each" "$wrong"
 
 wrong=''
 while read -r name file; do

@@ -94,11 +94,37 @@ verdict "there are ten slips" "$([ "$(wc -l <"$room/slips")" -eq 10 ] || wc -l <
 while read -r name _; do
     finds "$name"
 done <"$room/slips"
-wrong=''
-for name in $(sed -n 's/^    bash host\/rehearse\.sh --slip //p' docs/SLIPS.md); do
-    grep -q "^$name " "$room/slips" || wrong="$wrong $name"
-done
-verdict "every slip that docs/SLIPS.md puts in is one of them" "$wrong"
+
+# ---- the slips of docs/SLIPS.md, each on its script
+
+# Prints, for each command of the page that plays a script with a slip: the slip, the script, and where the sentence ahead of the command
+# says that it goes wrong.
+slipped() {
+    awk 'BEGIN { line = "nowhere" }
+        /^On the script above it goes wrong in [0-9]+: / { line = $9 + 0 }
+        /^    bash host\/rehearse\.sh --slip .* --play / { print $4, $6, line; line = "nowhere" }' docs/SLIPS.md
+}
+
+# One case: a script, the second word, prints what is kept beside it; and with the slip of the first word, named ahead of the script or
+# behind it, the first line that is another is one of the command of the third word.
+goes_wrong() {
+    local wrong kept=${2%.drill}.shown first
+    run --play "$2"
+    wrong=$(wrongs 0)
+    cmp -s "$room/wrote" "$kept" || wrong="$wrong without it: $(cmp "$room/wrote" "$kept" 2>&1 | sed "s|$room/||g")"
+    "$rehearse" --play - --slip "$1" <"$2" >"$room/behind" || wrong="$wrong named behind: status $?"
+    run --slip "$1" --play "$2"
+    wrong="$wrong$(wrongs 0)"
+    cmp -s "$room/wrote" "$room/behind" || wrong="$wrong not the same either way round"
+    [ "$(wc -l <"$room/wrote")" -eq "$(wc -l <"$kept")" ] || wrong="$wrong not as many lines"
+    first=$(diff "$kept" "$room/wrote" | sed -n 's/^> \([^ ]*\) .*/\1/p' | head -n 1)
+    [ "$first" = "$3" ] || wrong="$wrong first different: ${first:-none}"
+    verdict "the slip $1 goes wrong on $2 in $3, and without it all is as kept" "$wrong"
+}
+verdict "docs/SLIPS.md plays seven slips, each on a script" "$([ "$(slipped | cut -d ' ' -f 1 | sort -u | wc -l)" -eq 7 ] || slipped | paste -s -d ';')"
+while read -r name script line; do
+    goes_wrong "$name" "$script" "$line"
+done < <(slipped)
 
 # One case: a program that fails, the words from the third on, is told to fail as the second word says.
 fails() {
@@ -129,6 +155,12 @@ ended=$?
 [ "$(wc -l <"$room/wanted")" -eq 10 ] || echo "ten lines" >"$room/wanted"
 judge "a script from a file and from standard input is played alone" $ended
 
+printf 'a private start identifier=5 callee=2 media=1\na private start\na privat end' >"$room/given"
+"$rehearse" --play "$room/given" >"$room/wanted"
+"$rehearse" --slip second-accept --play - <"$room/given" >"$room/wrote" 2>"$room/said"
+ended=$?
+judge "a script that a slip does not touch is played with it as without it, complaints and all" $ended
+
 # ---- bad usage
 
 # One case: the program, given the words from the third on, must refuse them, and say just the second word.
@@ -144,6 +176,8 @@ refuses "an option without its word is named" '--steps needs a word behind it' -
 refuses "a slip that there is not is named" '--slip needs the name of a slip, not "none"; --slips lists them' --slip none -- true
 refuses "a run needs a command" 'no COMMAND: -- and what runs the program come last' --seed 5
 refuses "a play is of one script" 'too many words for --play' --play one two
+refuses "a play with a slip is of one script too" 'too many words for --play' --slip old-start --play one two
+refuses "a play by a slip that there is not names it" '--slip needs the name of a slip, not "none"; --slips lists them' --play one --slip none
 
 # One case: the last run must have ended with status 2, and said one line that starts with the second word.
 gives_up() {
@@ -157,6 +191,8 @@ run --steps 5 -- "$room/none"
 gives_up "a command that cannot be run is told" "$room/none could not be run"
 run --play "$room/none"
 gives_up "a script that is not there is told" "$room/none could not be read"
+run --slip old-start --play "$room/none"
+gives_up "it is told where a slip is put in too" "$room/none could not be read"
 "$rehearse" --help >/dev/full 2>"$room/said" </dev/null
 ended=$?
 gives_up "an output that takes nothing is told" 'standard output could not be written'

@@ -22,7 +22,7 @@ mod turns;
 mod unreadable;
 
 use independent::command::{self, named, put, say};
-use independent::drill::{self, Machines};
+use independent::drill::{play_by, Machines};
 use options::{Options, Task};
 use program::Program;
 use rehearsal::{Ended, Rehearsal};
@@ -45,7 +45,7 @@ fn done(task: &Task) -> io::Result<bool> {
     match task {
         Task::Rehearse(options, program) => return rehearse(options, program),
         Task::Script(seed, number) => put(&script::made(*seed, *number))?,
-        Task::Play(file) => put(&drill::play(&read(file)?))?,
+        Task::Play(file, slip) => put(&play_by(machines(*slip), &read(file)?))?,
         Task::Slips => {
             for slip in &SLIPS {
                 say(&format!("{:<16} {}", slip.name, slip.meaning))?;
@@ -59,13 +59,10 @@ fn done(task: &Task) -> io::Result<bool> {
 /// Looks for a difference, and tells whether there was none and all was met often enough.
 fn rehearse(options: &Options, program: &Program) -> io::Result<bool> {
     say(&format!("seed {}", options.seed))?;
-    let machines = options
-        .slip
-        .map_or(Machines::RULES, |place| SLIPS[place].machines);
     let rehearsal = Rehearsal {
         seed: options.seed,
         steps: options.steps,
-        machines,
+        machines: machines(options.slip),
         program,
     };
     let tally = match rehearsal.run()? {
@@ -82,6 +79,11 @@ fn rehearse(options: &Options, program: &Program) -> io::Result<bool> {
         Err(seldom) => say(seldom)?,
     }
     Ok(met.is_ok())
+}
+
+/// Gives the machines with the slip of a place in them, or those that keep to the rules where there is none.
+fn machines(slip: Option<usize>) -> Machines {
+    slip.map_or(Machines::RULES, |place| SLIPS[place].machines)
 }
 
 /// Reads as much of a script as is needed to see that it is too long.

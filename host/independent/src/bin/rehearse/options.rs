@@ -10,8 +10,9 @@ pub enum Task {
     Rehearse(Options, Program),
     /// Write the script of a seed that has this number.
     Script(u64, u64),
-    /// Write what the independent implementation makes of a script: the file's name, or `-`.
-    Play(String),
+    /// Write what the independent implementation makes of a script, given by the file's name or `-`, with the
+    /// slip of a place put in, if there is one.
+    Play(String, Option<usize>),
     /// List the slips.
     Slips,
     /// Say how the program is called.
@@ -36,7 +37,8 @@ writes its transcript to standard output, and by the independent implementation,
   --slip NAME  puts a slip into the independent machines, to see that it is found
 rehearse --slips: lists the slips by their names
 rehearse --script N [--seed N]: writes the script of a seed that has this number, from 1
-rehearse --play FILE: writes what the independent implementation makes of a script; from standard input where FILE is -
+rehearse --play FILE [--slip NAME]: writes what the independent implementation makes of a script, with the slip put in where one is
+named, and looks for no difference; from standard input where FILE is -
 These three take no notice of a COMMAND. A difference is shown with its script, cut down to the words that are needed for it.
 A program that fails, or says anything on standard error, differs.
 Status: 0 no difference; 1 a difference, or a run of 10000 steps or more that did not meet each row, each number and each complaint about a
@@ -54,10 +56,21 @@ pub fn parse(words: &[String]) -> Result<Task, String> {
     }
     match own {
         ["--slips"] => Ok(Task::Slips),
-        ["--play", file] => Ok(Task::Play(file.to_string())),
-        ["--play"] => Err("--play needs a word behind it".to_string()),
-        ["--slips" | "--play", ..] => Err(format!("too many words for {}", own[0])),
+        ["--slips", ..] => Err("too many words for --slips".to_string()),
+        ["--play", ..] | ["--slip", _, "--play", ..] => play(own),
         _ => options(own, command),
+    }
+}
+
+/// Reads the words of a play, where a slip may be named ahead of the script or behind it.
+fn play(words: &[&str]) -> Result<Task, String> {
+    match words {
+        ["--play", file] => Ok(Task::Play(file.to_string(), None)),
+        ["--play", file, "--slip", name] | ["--slip", name, "--play", file] => {
+            Ok(Task::Play(file.to_string(), Some(slip(name)?)))
+        }
+        [.., name @ ("--play" | "--slip")] => Err(format!("{name} needs a word behind it")),
+        _ => Err("too many words for --play".to_string()),
     }
 }
 
@@ -145,9 +158,44 @@ mod tests {
         }
         assert_eq!(parsed("--script 3 --seed 9"), Ok(Task::Script(9, 3)));
         assert_eq!(parsed("--script 3 -- x"), Ok(Task::Script(1, 3)));
-        assert_eq!(parsed("--play -"), Ok(Task::Play("-".to_string())));
         assert_eq!(parsed("--slips"), Ok(Task::Slips));
         assert_eq!(parsed("--seed x --help"), Ok(Task::Help));
+    }
+
+    /// A play takes no slip, or one that stands ahead of the script or behind it.
+    #[test]
+    fn plays() {
+        let played = |file: &str, slip| Ok(Task::Play(file.to_string(), slip));
+        assert_eq!(parsed("--play -"), played("-", None));
+        assert_eq!(parsed("--play x -- y"), played("x", None));
+        for (place, slip) in SLIPS.iter().enumerate() {
+            let behind = format!("--play - --slip {} -- y", slip.name);
+            assert_eq!(parsed(&behind), played("-", Some(place)));
+            let ahead = format!("--slip {} --play x", slip.name);
+            assert_eq!(parsed(&ahead), played("x", Some(place)));
+        }
+    }
+
+    /// A play that lacks a word, or has one too many, is told by the word that matters.
+    #[test]
+    fn bad_plays() {
+        for (line, told) in [
+            ("--play", "--play needs a word behind it"),
+            ("--slip old-start --play", "--play needs a word behind it"),
+            ("--play x --slip", "--slip needs a word behind it"),
+            ("--play x y", "too many words for --play"),
+            ("--play x --slip old-start y", "too many words for --play"),
+            ("--slip old-start --play x y", "too many words for --play"),
+            ("--play x --seed 1", "too many words for --play"),
+        ] {
+            assert_eq!(parsed(line), Err(told.to_string()), "{line}");
+        }
+        for line in ["--play x --slip none", "--slip none --play x"] {
+            let wrong = parsed(line).unwrap_err();
+            assert!(wrong.starts_with("--slip needs the name of a slip, not \"none\""));
+        }
+        let unnamed = parsed("--slip --play x").unwrap_err();
+        assert!(unnamed.starts_with("--slip needs the name of a slip, not \"--play\""));
     }
 
     /// Every wrong call is told in one line.
@@ -162,8 +210,6 @@ mod tests {
             "--steps -1 -- x",
             "--slip none -- x",
             "--slips 1",
-            "--play",
-            "--play x y",
             "--script one",
             "--other 1 -- x",
             "x",

@@ -50,7 +50,7 @@ function operand(row, found) {
 function asked(row, head, what) {
     head = token[place++]
     if (head == "x" && token[place] ~ /^\.[a-z_]+$/) return "fact:" substr(token[place++], 2)
-    if ((head == "inP" || head == "inState") && token[place] ~ /^[0-9]$/ && token[place + 1] == "f") {
+    if (head == "inState" && token[place] ~ /^[0-9]$/ && token[place + 1] == "f") {
         place += 2
         return "in:" token[place - 2]
     }

@@ -5,8 +5,7 @@
 BEGIN {
     read_words()
     load(asking)
-    check_plain("inP", "eqb ( stateNumber ( stateOf f ) ) n")
-    check_plain("inState", "eqb ( stateNumber state ) n")
+    check_plain("inState", "eqb ( stateNumber " (parameter["inState", 2] == "state" ? "state" : "( stateOf f )") " ) n")
     check_plain("sameCause", "eqb ( causeNumber c ) ( causeNumber d )")
     check_plain("runs", "has ( runningOf " parameter["runs", 2] " ) t")
     load(doing)

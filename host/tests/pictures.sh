@@ -115,7 +115,7 @@ notices() {
 notices "a row that enters another state" $private_effects '/^effectOf R8 /s/State.P3 tfp3/State.P1 noTimer/' docs/private-call.svg
 notices "a row that sends something else" $private_effects '/^effectOf R26 /s/Reason.Failed/Reason.Reject/' docs/private-call.svg
 notices "a row that is met in one state less" $private_rows \
-    's/(R13, (inP 3 f || (inP 4 f || inP 5 f))/(R13, (inP 4 f || inP 5 f)/' docs/private-call.svg
+    's/(R13, (inState 3 f || (inState 4 f || inState 5 f))/(R13, (inState 4 f || inState 5 f)/' docs/private-call.svg
 notices "a verb that does something else" $group_effects '/^restarts /s/stop = timers/stop = noTimer/' docs/group-call.svg
 notices "a condition that several rows share" $private_rows '/^newRequest /s/Cause.SetupHeard/Cause.RingingHeard/' docs/private-call.svg
 notices "another timer in a state" crates/group_record/specs/States.antt \
@@ -152,8 +152,8 @@ refuses "a row that asks nothing known" $private_rows '/(R8, /d' \
 refuses "a condition without a word" $group_rows '/(G9, /s/better_rank/worse_rank/' \
     "$group_rows: G9: host/pictures/group-call.words has no word for the fact worse_rank"
 refuses "a condition of another form" $group_rows '/(G8, /s/inState 3 f/above 3 f/' "$group_rows: G8: cannot read 'above 3'"
-refuses "a plain word that means something else" $private_rows '/^inP n f/s/ n$/ 0/' \
-    "$private_rows: inP: cannot read it, since it is defined in another way"
+refuses "a plain word that means something else" $private_rows '/^inState n f/s/ n$/ 0/' \
+    "$private_rows: inState: cannot read it, since it is defined in another way"
 refuses "a way for which there is no arrow" $private_effects '/^effectOf R8 /s/State.P3 tfp3/State.P0 noTimer/' \
     "host/pictures/private-call.layout: no arrow from P2 to P0, where R8 leads"
 refuses "an arrow through a text" host/pictures/group-call.layout 's/^arrow S1 S3 .*/arrow S1 S3 230,76 230,424/' \

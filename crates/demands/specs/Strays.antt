@@ -99,6 +99,7 @@ refusals =
     ∷ (8, crew, stored Phase.P4 noCounters ours, starts 0, 0)
     ∷ (8, crew, stored Phase.P1 noCounters ours, starts 0x1234, 0)
     ∷ (9, crew, stored Phase.P2Tfp1 (cfp1At 4) ours, starts 0, 0)
+    ∷ (9, crewWith false 16, stored Phase.P2Tfp1 (cfp1At 17) ours, starts 0, 0)
     ∷ (9, crew, stored Phase.P2Tfp1 (cfp1At 1) theirs, starts 0x1235, 63)
     ∷ (9, crew, stored Phase.P4 (cfp4At 1) ours, does PrivateAction.End, 63)
     ∷ (9, crew, stored Phase.P1 noCounters noCall, expires PrivateTimer.Tfp7, 63)

@@ -67,7 +67,7 @@ fit s g e =
     record { running = same-timers (g .running) (runningOf (g .state)) (a .0); call = a .1 }
 
 -- outside S1 there is a call
-pub one-held : (s : Settings) (state : State) (c : GroupCall) (media : Media) → startStop state ≡ false → callGood s state c media ≡ true → callHeld s c media ≡ true
+one-held : (s : Settings) (state : State) (c : GroupCall) (media : Media) → startStop state ≡ false → callGood s state c media ≡ true → callHeld s c media ≡ true
 one-held s state c media p g = sym (ap (λ (b : Bool). cond b (callNone c media) (callHeld s c media)) p) ∙ g
 
 -- a call of the own group is good outside S1
@@ -94,7 +94,7 @@ change-held s c stored own a media b m h =
     (announces (changedBy stored (a .call)) 0 own (changes-good stored (a .call) 0 own (ranged stored 0 own (k .0)) (x .type) (x .change) (x .changer))) (k .1)
 
 -- what may be held is good
-pub held-good : (s : Settings) (state to : State) (hold : Hold) (c : Cause) (stored : GroupCall) (own : Media) (a : Announced) (media : Media)
+held-good : (s : Settings) (state to : State) (hold : Hold) (c : Cause) (stored : GroupCall) (own : Media) (a : Announced) (media : Media)
     → mayHold c state to hold ≡ true → callGood s state stored own ≡ true → Brings (s .«own_group») c a media
     → callGood s to (heldOf hold stored (a .call)) (mediaHeld hold own media) ≡ true
 held-good s state to Hold.Keep c stored own a media m g b =

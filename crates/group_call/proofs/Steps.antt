@@ -37,11 +37,11 @@ module _ (s : Settings) (g : GroupRecord) (i : Input) where
   -- ---- what a number 0 shows
 
   -- the tests passed
-  pub tests-passed : numberBeforeSending s g i ≡ 0 → Taken s (wellFormed s g) i × (changeTooEarly s g (i .event) (rowOf s g (i .event)) ≡ false)
+  tests-passed : numberBeforeSending s g i ≡ 0 → Taken s (wellFormed s g) i × (changeTooEarly s g (i .event) (rowOf s g (i .event)) ≡ false)
   tests-passed = stepping.tests-passed s (wellFormed s g) i (changeTooEarly s g (i .event) (rowOf s g (i .event)))
 
   -- a number 0 of a step passed the tests, and then the writer's is 0
-  pub step-passed : (out : List ℕ) → stepNumber s g i out ≡ 0
+  step-passed : (out : List ℕ) → stepNumber s g i out ≡ 0
       → (numberBeforeSending s g i ≡ 0) × (sendNumber (doneOf s g i .sent) (doneOf s g i .next .media) out ≡ 0)
   step-passed = number-passed (numberBeforeSending s g i) (doneOf s g i .sent) (doneOf s g i .next .media)
 

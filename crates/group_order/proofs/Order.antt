@@ -82,7 +82,7 @@ never-itself a =
     (λ x. fails-first (a .start) (a .start) (lower a a) (omega arith) (λ y. le-ltb (a .identifier) (a .identifier) (omega arith)))
 
 -- what is better than a better call is better
-pub along-a-chain : (a b c : GroupCall) → isBetter a b ≡ true → isBetter b c ≡ true → isBetter a c ≡ true
+along-a-chain : (a b c : GroupCall) → isBetter a b ≡ true → isBetter b c ≡ true → isBetter a c ≡ true
 along-a-chain a b c =
     first-chain (ranks a) (ranks b) (ranks c) (sooner a b) (sooner b c) (sooner a c)
     (first-chain (a .start) (b .start) (c .start) (lower a b) (lower b c) (lower a c)

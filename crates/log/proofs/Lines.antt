@@ -34,7 +34,7 @@ lines-joined (x ∷ log) = go (isEnd x) (lines-joined log)
 -- ---- the first line and the rest
 
 -- a log is its first line and what stands behind it
-pub first-and-after : (log : List ℕ) → firstLine log ++ afterFirst log ≡ log
+first-and-after : (log : List ℕ) → firstLine log ++ afterFirst log ≡ log
 unfolding firstLine afterFirst
 first-and-after [] = refl
 first-and-after (x ∷ log) = go (isEnd x) (first-and-after log)
@@ -149,7 +149,7 @@ lines-cut-at-ends (x ∷ log) = go (isEnd x) refl (lines-cut-at-ends log)
     go false e h = ahead-cut x e (linesOf log) h
 
 -- an ended line ahead of a log is its first line
-pub ended-first : (line log : List ℕ) → endedLine line ≡ true → linesOf (line ++ log) ≡ line ∷ linesOf log
+ended-first : (line log : List ℕ) → endedLine line ≡ true → linesOf (line ++ log) ≡ line ∷ linesOf log
 unfolding linesOf
 ended-first [] log h = absurd (false≢true h)
 ended-first (x ∷ []) log h = rw h

@@ -35,7 +35,7 @@ module _ (s : Settings) (p : PrivateRecord) (i : Input) (row : Row) where
   effect = effectOf row (p .state)
 
   -- leaving a state stops each timer that runs there, if the row does not start it anew
-  pub change-stops : (t : PrivateTimer) → changes (p .state) (carryOut s p i row .next .state) ≡ true → has (p .running) t ≡ true
+  change-stops : (t : PrivateTimer) → changes (p .state) (carryOut s p i row .next .state) ≡ true → has (p .running) t ≡ true
       → has (carryOut s p i row .start) t ≡ false → has (ranOut (i .event)) t ≡ false → has (carryOut s p i row .stop) t ≡ true
   unfolding carryOut
   change-stops t a b c d =
@@ -43,21 +43,21 @@ module _ (s : Settings) (p : PrivateRecord) (i : Input) (row : Row) where
       ∙ change-stops-one (changes (p .state) (effect .to)) (has (effect .stop) t) (has (p .running) t) (has (startedBy (p .state) effect) t) (has (ranOut (i .event)) t) a b c d
 
   -- no step stops the timer whose expiry it is about
-  pub ran-out-never-stopped : (t : PrivateTimer) → has (ranOut (i .event)) t ≡ true → has (carryOut s p i row .stop) t ≡ false
+  ran-out-never-stopped : (t : PrivateTimer) → has (ranOut (i .event)) t ≡ true → has (carryOut s p i row .stop) t ≡ false
   unfolding carryOut
   ran-out-never-stopped t e =
       stopped-one (changes (p .state) (effect .to)) (effect .stop) (p .running) (startedBy (p .state) effect) (ranOut (i .event)) t
       ∙ spares-one (changes (p .state) (effect .to)) (has (effect .stop) t) (has (p .running) t) (has (startedBy (p .state) effect) t) (has (ranOut (i .event)) t) e
 
   -- a counter without a running timer is 0
-  pub counter-rests : (k : Counter) → has (carryOut s p i row .next .running) (timerOf k) ≡ false → countIn k (carryOut s p i row .next .counters) ≡ 0
+  counter-rests : (k : Counter) → has (carryOut s p i row .next .running) (timerOf k) ≡ false → countIn k (carryOut s p i row .next .counters) ≡ 0
   unfolding carryOut countersAfter
   counter-rests cfp1 e = rw e
   counter-rests cfp3 e = rw e
   counter-rests cfp4 e = rw e
 
   -- whoever comes to P1 starts TFP7
-  pub entering-starts : changes (p .state) (carryOut s p i row .next .state) ≡ true → eqb (stateNumber (carryOut s p i row .next .state)) 1 ≡ true
+  entering-starts : changes (p .state) (carryOut s p i row .next .state) ≡ true → eqb (stateNumber (carryOut s p i row .next .state)) 1 ≡ true
       → has (carryOut s p i row .start) PrivateTimer.Tfp7 ≡ true
   unfolding carryOut startedOf
   entering-starts a b = rw (a, b) (either (effect .start .tfp7))

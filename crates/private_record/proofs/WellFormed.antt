@@ -39,7 +39,7 @@ has-set q PrivateTimer.Tfp5 = refl
 has-set q PrivateTimer.Tfp7 = refl
 
 -- the state of the phase is the record's
-pub state-back : (state : State) (w : Timers) → state ≡ stateOf (phaseIn state w)
+state-back : (state : State) (w : Timers) → state ≡ stateOf (phaseIn state w)
 state-back State.P0 w = refl
 state-back State.P1 w = refl
 state-back State.P2 w = go (w .tfp1)

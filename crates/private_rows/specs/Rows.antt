@@ -77,8 +77,8 @@ sameCause c d = eqb (causeNumber c) (causeNumber d)
 -- ---- what each row asks, of the phase f, the cause c and the facts x
 
 -- the state has this number
-abbrev pub inP : ℕ → Phase → Bool
-inP n f = eqb (stateNumber (stateOf f)) n
+abbrev pub inState : ℕ → Phase → Bool
+inState n f = eqb (stateNumber (stateOf f)) n
 
 -- a timer runs
 abbrev pub runs : PrivateTimer → Phase → Bool
@@ -90,7 +90,7 @@ expires t f c = sameCause c (privateTimerCause t) && runs t f
 
 -- a setup request that counts is heard in P0 or P1, and is not the same: the case of R19 to R22
 abbrev pub newRequest : Phase → Cause → Facts → Bool
-newRequest f c x = (inP 0 f || inP 1 f) && (sameCause c Cause.SetupHeard && not (x .same))
+newRequest f c x = (inState 0 f || inState 1 f) && (sameCause c Cause.SetupHeard && not (x .same))
 
 -- another message is heard, and it is the same
 abbrev pub same : Cause → Cause → Facts → Bool
@@ -99,35 +99,35 @@ same kind c x = sameCause c kind && x .same
 -- the rows, each with all that it asks
 abbrev pub rowsAsk : Phase → Cause → Facts → List (Row × Bool)
 rowsAsk f c x =
-    (R1, (inP 0 f || inP 1 f) && sameCause c Cause.UserStarts)
-    ∷ (R2, inP 2 f && (expires PrivateTimer.Tfp1 f c && x .under))
-    ∷ (R3, inP 2 f && (expires PrivateTimer.Tfp1 f c && not (x .under)))
-    ∷ (R4, inP 2 f && (same Cause.RingingHeard c x && runs PrivateTimer.Tfp1 f))
-    ∷ (R5, inP 2 f && (same Cause.AcceptHeard c x && x .media))
-    ∷ (R6, inP 2 f && same Cause.RejectHeard c x)
-    ∷ (R7, inP 2 f && expires PrivateTimer.Tfp2 f c)
-    ∷ (R8, inP 2 f && sameCause c Cause.UserEnds)
-    ∷ (R9, inP 4 f && sameCause c Cause.UserEnds)
-    ∷ (R10, inP 3 f && (expires PrivateTimer.Tfp3 f c && x .under))
-    ∷ (R11, inP 3 f && (expires PrivateTimer.Tfp3 f c && not (x .under)))
-    ∷ (R12, inP 3 f && same Cause.ReleaseAckHeard c x)
-    ∷ (R13, (inP 3 f || (inP 4 f || inP 5 f)) && same Cause.ReleaseHeard c x)
-    ∷ (R14, inP 1 f && same Cause.ReleaseHeard c x)
-    ∷ (R15, inP 4 f && expires PrivateTimer.Tfp5 f c)
-    ∷ (R16, inP 5 f && (expires PrivateTimer.Tfp4 f c && x .under))
-    ∷ (R17, inP 5 f && (expires PrivateTimer.Tfp4 f c && not (x .under)))
-    ∷ (R18, inP 5 f && (same Cause.AcceptAckHeard c x && runs PrivateTimer.Tfp4 f))
+    (R1, (inState 0 f || inState 1 f) && sameCause c Cause.UserStarts)
+    ∷ (R2, inState 2 f && (expires PrivateTimer.Tfp1 f c && x .under))
+    ∷ (R3, inState 2 f && (expires PrivateTimer.Tfp1 f c && not (x .under)))
+    ∷ (R4, inState 2 f && (same Cause.RingingHeard c x && runs PrivateTimer.Tfp1 f))
+    ∷ (R5, inState 2 f && (same Cause.AcceptHeard c x && x .media))
+    ∷ (R6, inState 2 f && same Cause.RejectHeard c x)
+    ∷ (R7, inState 2 f && expires PrivateTimer.Tfp2 f c)
+    ∷ (R8, inState 2 f && sameCause c Cause.UserEnds)
+    ∷ (R9, inState 4 f && sameCause c Cause.UserEnds)
+    ∷ (R10, inState 3 f && (expires PrivateTimer.Tfp3 f c && x .under))
+    ∷ (R11, inState 3 f && (expires PrivateTimer.Tfp3 f c && not (x .under)))
+    ∷ (R12, inState 3 f && same Cause.ReleaseAckHeard c x)
+    ∷ (R13, (inState 3 f || (inState 4 f || inState 5 f)) && same Cause.ReleaseHeard c x)
+    ∷ (R14, inState 1 f && same Cause.ReleaseHeard c x)
+    ∷ (R15, inState 4 f && expires PrivateTimer.Tfp5 f c)
+    ∷ (R16, inState 5 f && (expires PrivateTimer.Tfp4 f c && x .under))
+    ∷ (R17, inState 5 f && (expires PrivateTimer.Tfp4 f c && not (x .under)))
+    ∷ (R18, inState 5 f && (same Cause.AcceptAckHeard c x && runs PrivateTimer.Tfp4 f))
     ∷ (R19, newRequest f c x && not (x .media))
     ∷ (R20, newRequest f c x && (x .media && (not (x .manual) && x .trusted)))
     ∷ (R21, newRequest f c x && (x .media && (not (x .manual) && not (x .trusted))))
     ∷ (R22, newRequest f c x && (x .media && x .manual))
-    ∷ (R23, inP 5 f && (runs PrivateTimer.Tfp2 f && (sameCause c Cause.UserAccepts && x .trusted)))
-    ∷ (R24, inP 5 f && (runs PrivateTimer.Tfp2 f && (sameCause c Cause.UserAccepts && not (x .trusted))))
-    ∷ (R25, inP 5 f && (runs PrivateTimer.Tfp2 f && sameCause c Cause.UserRejects))
-    ∷ (R26, inP 5 f && expires PrivateTimer.Tfp2 f c)
-    ∷ (R27, (inP 2 f || (inP 3 f || (inP 4 f || inP 5 f))) && (sameCause c Cause.SetupHeard && not (x .same)))
-    ∷ (R28, inP 1 f && expires PrivateTimer.Tfp7 f c)
-    ∷ (R29, inP 4 f && (same Cause.AcceptHeard c x && x .«own_caller»))
+    ∷ (R23, inState 5 f && (runs PrivateTimer.Tfp2 f && (sameCause c Cause.UserAccepts && x .trusted)))
+    ∷ (R24, inState 5 f && (runs PrivateTimer.Tfp2 f && (sameCause c Cause.UserAccepts && not (x .trusted))))
+    ∷ (R25, inState 5 f && (runs PrivateTimer.Tfp2 f && sameCause c Cause.UserRejects))
+    ∷ (R26, inState 5 f && expires PrivateTimer.Tfp2 f c)
+    ∷ (R27, (inState 2 f || (inState 3 f || (inState 4 f || inState 5 f))) && (sameCause c Cause.SetupHeard && not (x .same)))
+    ∷ (R28, inState 1 f && expires PrivateTimer.Tfp7 f c)
+    ∷ (R29, inState 4 f && (same Cause.AcceptHeard c x && x .«own_caller»))
     ∷ []
 
 -- ---- the row that an event meets

@@ -83,7 +83,7 @@ module _ (l : List ℕ) (a : Accepted l) where
       ∙ sym (ap (λ (n : ℕ). take n l) (a .long) ∙ take-add (f + h) b l ∙ ap (λ (s : List ℕ). s ++ take b (drop (f + h) l)) (take-add f h l) ∙ append-assoc (take f l) (take h (drop f l)) (take b (drop (f + h) l)))
 
   -- behind them stands 0A
-  pub ends-with : take (count l) l ++ 10 ∷ [] ≡ l
+  ends-with : take (count l) l ++ 10 ∷ [] ≡ l
   ends-with =
       let j : count l < length l = omega arith in
       let d : drop (suc (count l)) l ≡ [] = drop-of-length-le l {i = suc (count l)} (omega arith) in

@@ -21,12 +21,12 @@ use Rattle.writer.specs.declared.Written.{Written}
 -- ---- stores one after the other
 
 -- a list, then what follows it
-pub sets-append : (a b l : List ℕ) (i n : ℕ) → i + length a ≡ n → sets l i (a ++ b) ≡ sets (sets l i a) n b
+sets-append : (a b l : List ℕ) (i n : ℕ) → i + length a ≡ n → sets l i (a ++ b) ≡ sets (sets l i a) n b
 sets-append [] b l i n e = ap (λ (k : ℕ). sets l k b) (sym (add-zero i) ∙ e)
 sets-append (x ∷ a) b l i n e = sets-append a b (set l i x) (suc i) n (suc-add i (length a) ∙ sym (add-suc i (length a)) ∙ e)
 
 -- a number, then what follows it
-pub sets-hex : (l : List ℕ) (i : ℕ) (w : Width) (v : ℕ) (rest : List ℕ) → sets l i (inHex w v ++ rest) ≡ sets (sets l i (inHex w v)) (i + digitCount w) rest
+sets-hex : (l : List ℕ) (i : ℕ) (w : Width) (v : ℕ) (rest : List ℕ) → sets l i (inHex w v ++ rest) ≡ sets (sets l i (inHex w v)) (i + digitCount w) rest
 sets-hex l i w v rest = sets-append (inHex w v) rest l i (i + digitCount w) (ap (_+_ i) (length-hex w v))
 
 -- a number of twice the width, half by half

@@ -1,4 +1,4 @@
--- `call::announced_of` meets its contract: what is known at each return gives the case. Assumes nothing.
+-- `call::announced_of` meets its contract. Assumes nothing.
 use borrow.Author.Needs.{needs}
 use Rattle.call.proofs.announced_of.Statement.{statement}
 use Rattle.call.proofs.announced_of.Tie as tie

@@ -1,4 +1,4 @@
--- `chooser::announced_by` meets its contract: what is known at each return gives the case. Assumes nothing.
+-- `chooser::announced_by` meets its contract. Assumes nothing.
 use borrow.Author.Needs.{needs}
 use Rattle.chooser.proofs.announced_by.Statement.{statement}
 use Rattle.chooser.proofs.announced_by.Tie as tie

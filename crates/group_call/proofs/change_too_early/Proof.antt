@@ -1,4 +1,4 @@
--- `group_call::change_too_early` meets its contract: what is known at each return gives the case. Assumes nothing.
+-- `group_call::change_too_early` meets its contract. Assumes nothing.
 use borrow.Author.Needs.{needs}
 use Rattle.group_call.proofs.change_too_early.Statement.{statement}
 use Rattle.group_call.proofs.change_too_early.Tie as tie

@@ -1,4 +1,4 @@
--- `group_call::moved` meets its contract: what is known at each return gives the case. Assumes nothing.
+-- `group_call::moved` meets its contract. Assumes nothing.
 use borrow.Author.Needs.{needs}
 use Rattle.group_call.proofs.moved.Statement.{statement}
 use Rattle.group_call.proofs.moved.Tie as tie

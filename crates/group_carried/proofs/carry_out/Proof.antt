@@ -1,4 +1,4 @@
--- `group_carried::carry_out` meets its contract: what is known at each return gives the case. Assumes nothing.
+-- `group_carried::carry_out` meets its contract. Assumes nothing.
 use Rattle.group_carried.specs.Carried.{carryOut}
 use borrow.Author.Needs.{needs}
 use Rattle.group_carried.proofs.carry_out.Statement.{statement}

@@ -1,4 +1,4 @@
--- `group_order::better` meets its contract: what is known at each return gives the case. Assumes nothing.
+-- `group_order::better` meets its contract. Assumes nothing.
 use borrow.Author.Needs.{needs}
 use Rattle.group_order.proofs.better.Statement.{statement}
 use Rattle.group_order.proofs.better.Tie as tie

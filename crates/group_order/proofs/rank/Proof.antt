@@ -1,4 +1,4 @@
--- `group_order::rank` meets its contract: what is known at each return gives the case. Assumes nothing.
+-- `group_order::rank` meets its contract. Assumes nothing.
 use borrow.Author.Tests.{eq-eqb, ne-eqb}
 use Rattle.group_order.proofs.rank.Statement.{statement}
 use Rattle.group_order.proofs.rank.Tie as tie

@@ -1,4 +1,4 @@
--- `group_record::well_formed` meets its contract: what is known at each return gives the case. Assumes nothing.
+-- `group_record::well_formed` meets its contract. Assumes nothing.
 use Rattle.group_record.specs.Formed.{wellFormed}
 use borrow.Author.Needs.{needs}
 use Rattle.group_record.proofs.well_formed.Statement.{statement}

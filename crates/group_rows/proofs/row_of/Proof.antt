@@ -1,4 +1,4 @@
--- `group_rows::row_of` meets its contract: what is known at each return gives the case. Assumes nothing.
+-- `group_rows::row_of` meets its contract. Assumes nothing.
 use borrow.Author.Needs.{needs}
 use Rattle.group_rows.proofs.row_of.Statement.{statement}
 use Rattle.group_rows.proofs.row_of.Tie as tie

@@ -1,4 +1,4 @@
--- `pace::row_met` meets its contract: what is known at each return gives the case. Assumes nothing.
+-- `pace::row_met` meets its contract. Assumes nothing.
 use native.Mathlib.Omega.{arith}
 use borrow.Author.Tests.{eq-eqb, ne-eqb}
 use Rattle.pace.proofs.row_met.Statement.{statement}

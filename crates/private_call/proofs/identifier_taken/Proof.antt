@@ -1,4 +1,4 @@
--- `private_call::identifier_taken` meets its contract: what is known at each return gives the case. Assumes nothing.
+-- `private_call::identifier_taken` meets its contract. Assumes nothing.
 use borrow.Author.Needs.{needs}
 use Rattle.private_call.proofs.identifier_taken.Statement.{statement}
 use Rattle.private_call.proofs.identifier_taken.Tie as tie

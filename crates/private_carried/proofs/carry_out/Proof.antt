@@ -1,4 +1,4 @@
--- `private_carried::carry_out` meets its contract: what is known at each return gives the case. Assumes nothing.
+-- `private_carried::carry_out` meets its contract. Assumes nothing.
 use Rattle.private_carried.specs.Carried.{carryOut}
 use borrow.Author.Needs.{needs}
 use Rattle.private_carried.proofs.carry_out.Statement.{statement}

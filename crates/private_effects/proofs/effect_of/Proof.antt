@@ -1,4 +1,4 @@
--- `private_effects::effect_of` meets its contract: what is known at each return gives the case. Assumes nothing.
+-- `private_effects::effect_of` meets its contract. Assumes nothing.
 use borrow.Author.Needs.{needs}
 use Rattle.private_effects.proofs.effect_of.Statement.{statement}
 use Rattle.private_effects.proofs.effect_of.Tie as tie

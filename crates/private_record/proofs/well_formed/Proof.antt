@@ -1,4 +1,4 @@
--- `private_record::well_formed` meets its contract: what is known at each return gives the case. Assumes nothing.
+-- `private_record::well_formed` meets its contract. Assumes nothing.
 use Rattle.private_record.specs.Formed.{wellFormed}
 use borrow.Author.Needs.{needs}
 use Rattle.private_record.proofs.well_formed.Statement.{statement}

@@ -1,4 +1,4 @@
--- `private_rows::row_of` meets its contract: what is known at each return gives the case. Assumes nothing.
+-- `private_rows::row_of` meets its contract. Assumes nothing.
 use borrow.Author.Needs.{needs}
 use Rattle.private_rows.proofs.row_of.Statement.{statement}
 use Rattle.private_rows.proofs.row_of.Tie as tie

@@ -1,4 +1,4 @@
--- `stepping::number_before_row` meets its contract: what is known at each return gives the case. Assumes nothing.
+-- `stepping::number_before_row` meets its contract. Assumes nothing.
 use Rattle.stepping.specs.Numbers.{numberBeforeRow}
 use borrow.Author.Needs.{needs}
 use Rattle.stepping.proofs.number_before_row.Statement.{statement}

@@ -1,4 +1,4 @@
--- `call::announcements::message_announced` meets its contract: what is known at each return gives the case. Assumes nothing.
+-- `call::announcements::message_announced` meets its contract. Assumes nothing.
 use borrow.Author.Needs.{needs}
 use Rattle.call.proofs.announcements.message_announced.Statement.{statement}
 use Rattle.call.proofs.announcements.message_announced.Tie as tie

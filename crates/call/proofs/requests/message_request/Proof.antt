@@ -1,4 +1,4 @@
--- `call::requests::message_request` meets its contract: what is known at each return gives the case. Assumes nothing.
+-- `call::requests::message_request` meets its contract. Assumes nothing.
 use borrow.Author.Needs.{needs}
 use Rattle.call.proofs.requests.message_request.Statement.{statement}
 use Rattle.call.proofs.requests.message_request.Tie as tie

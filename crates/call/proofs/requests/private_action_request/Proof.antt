@@ -1,4 +1,4 @@
--- `call::requests::private_action_request` meets its contract: what is known at each return gives the case. Assumes nothing.
+-- `call::requests::private_action_request` meets its contract. Assumes nothing.
 use borrow.Author.Needs.{needs}
 use Rattle.call.proofs.requests.private_action_request.Statement.{statement}
 use Rattle.call.proofs.requests.private_action_request.Tie as tie

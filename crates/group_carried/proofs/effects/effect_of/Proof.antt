@@ -1,4 +1,4 @@
--- `group_carried::effects::effect_of` meets its contract: what is known at each return gives the case. Assumes nothing.
+-- `group_carried::effects::effect_of` meets its contract. Assumes nothing.
 use borrow.Author.Needs.{needs}
 use Rattle.group_carried.proofs.effects.effect_of.Statement.{statement}
 use Rattle.group_carried.proofs.effects.effect_of.Tie as tie

@@ -1,4 +1,4 @@
--- `group_carried::settled::later_change` meets its contract: what is known at each return gives the case. Assumes nothing.
+-- `group_carried::settled::later_change` meets its contract. Assumes nothing.
 use borrow.Author.Needs.{needs}
 use Rattle.group_carried.proofs.settled.later_change.Statement.{statement}
 use Rattle.group_carried.proofs.settled.later_change.Tie as tie

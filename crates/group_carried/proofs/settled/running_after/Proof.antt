@@ -1,4 +1,4 @@
--- `group_carried::settled::running_after` meets its contract: what is known at each return gives the case. Assumes nothing.
+-- `group_carried::settled::running_after` meets its contract. Assumes nothing.
 use mathlib.Core.Path.{refl}
 use Rattle.group_carried.specs.Carried.{runningAfter}
 use Rattle.group_carried.proofs.settled.running_after.Statement.{statement}

@@ -1,4 +1,4 @@
--- `group_carried::settled::stopped` meets its contract: what is known at each return gives the case. Assumes nothing.
+-- `group_carried::settled::stopped` meets its contract. Assumes nothing.
 use mathlib.Core.Path.{refl}
 use Rattle.group_carried.specs.Carried.{stoppedOf}
 use Rattle.group_carried.proofs.settled.stopped.Statement.{statement}

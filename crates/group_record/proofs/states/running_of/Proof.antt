@@ -1,4 +1,4 @@
--- `group_record::states::running_of` meets its contract: what is known at each return gives the case. Assumes nothing.
+-- `group_record::states::running_of` meets its contract. Assumes nothing.
 use borrow.Author.Needs.{needs}
 use Rattle.group_record.proofs.states.running_of.Statement.{statement}
 use Rattle.group_record.proofs.states.running_of.Tie as tie

@@ -1,4 +1,4 @@
--- `group_rows::causes::announcement_cause` meets its contract: what is known at each return gives the case. Assumes nothing.
+-- `group_rows::causes::announcement_cause` meets its contract. Assumes nothing.
 use borrow.Author.Tests.{eq-eqb, ne-eqb}
 use Rattle.group_rows.proofs.causes.announcement_cause.Statement.{statement}
 use Rattle.group_rows.proofs.causes.announcement_cause.Tie as tie

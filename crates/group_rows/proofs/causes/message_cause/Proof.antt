@@ -1,4 +1,4 @@
--- `group_rows::causes::message_cause` meets its contract: what is known at each return gives the case. Assumes nothing.
+-- `group_rows::causes::message_cause` meets its contract. Assumes nothing.
 use borrow.Author.Needs.{needs}
 use Rattle.group_rows.proofs.causes.message_cause.Statement.{statement}
 use Rattle.group_rows.proofs.causes.message_cause.Tie as tie

@@ -1,4 +1,4 @@
--- `pace::happenings::group_event` meets its contract: what is known at each return gives the case. Assumes nothing.
+-- `pace::happenings::group_event` meets its contract. Assumes nothing.
 use borrow.Author.Needs.{needs}
 use borrow.Author.Tests.{ne-eqb}
 use Rattle.pace.proofs.happenings.group_event.Statement.{statement}

@@ -1,4 +1,4 @@
--- `pace::happenings::media_by` meets its contract: what is known at each return gives the case. Assumes nothing.
+-- `pace::happenings::media_by` meets its contract. Assumes nothing.
 use Rattle.pace.proofs.happenings.media_by.Statement.{statement}
 use Rattle.pace.proofs.happenings.media_by.Tie as tie
 

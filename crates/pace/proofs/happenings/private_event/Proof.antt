@@ -1,4 +1,4 @@
--- `pace::happenings::private_event` meets its contract: what is known at each return gives the case. Assumes nothing.
+-- `pace::happenings::private_event` meets its contract. Assumes nothing.
 use borrow.Author.Needs.{needs}
 use borrow.Author.Tests.{ne-eqb}
 use Rattle.pace.proofs.happenings.private_event.Statement.{statement}

@@ -1,4 +1,4 @@
--- `private_carried::settled::counter_after` meets its contract: what is known at each return gives the case. Assumes nothing.
+-- `private_carried::settled::counter_after` meets its contract. Assumes nothing.
 use borrow.Author.Needs.{needs}
 use Rattle.private_carried.proofs.settled.counter_after.Statement.{statement}
 use Rattle.private_carried.proofs.settled.counter_after.Tie as tie

@@ -1,4 +1,4 @@
--- `private_carried::settled::counters_after` meets its contract: what is known at each return gives the case. Assumes nothing.
+-- `private_carried::settled::counters_after` meets its contract. Assumes nothing.
 use Rattle.private_carried.specs.Carried.{countersAfter}
 use borrow.Author.Needs.{needs}
 use Rattle.private_carried.proofs.settled.counters_after.Statement.{statement}

@@ -1,4 +1,4 @@
--- `private_carried::settled::one_more` meets its contract: what is known at each return gives the case. Assumes nothing.
+-- `private_carried::settled::one_more` meets its contract. Assumes nothing.
 use borrow.Author.Tests.{le-ltb, lt-ltb}
 use borrow.Author.Needs.{needs}
 use Rattle.private_carried.proofs.settled.one_more.Statement.{statement}

@@ -1,4 +1,4 @@
--- `private_carried::settled::running_after` meets its contract: what is known at each return gives the case. Assumes nothing.
+-- `private_carried::settled::running_after` meets its contract. Assumes nothing.
 use mathlib.Core.Path.{refl}
 use Rattle.private_carried.specs.Carried.{runningAfter}
 use Rattle.private_carried.proofs.settled.running_after.Statement.{statement}

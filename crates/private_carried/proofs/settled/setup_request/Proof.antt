@@ -1,4 +1,4 @@
--- `private_carried::settled::setup_request` meets its contract: what is known at each return gives the case. Assumes nothing.
+-- `private_carried::settled::setup_request` meets its contract. Assumes nothing.
 use borrow.Author.Needs.{needs}
 use Rattle.private_carried.proofs.settled.setup_request.Statement.{statement}
 use Rattle.private_carried.proofs.settled.setup_request.Tie as tie

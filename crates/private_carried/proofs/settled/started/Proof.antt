@@ -1,4 +1,4 @@
--- `private_carried::settled::started` meets its contract: what is known at each return gives the case. Assumes nothing.
+-- `private_carried::settled::started` meets its contract. Assumes nothing.
 use Rattle.private_carried.specs.Carried.{startedOf}
 use borrow.Author.Needs.{needs}
 use Rattle.private_carried.proofs.settled.started.Statement.{statement}

@@ -1,4 +1,4 @@
--- `private_carried::settled::stopped` meets its contract: what is known at each return gives the case. Assumes nothing.
+-- `private_carried::settled::stopped` meets its contract. Assumes nothing.
 use mathlib.Core.Path.{refl}
 use Rattle.private_carried.specs.Carried.{stoppedOf}
 use Rattle.private_carried.proofs.settled.stopped.Statement.{statement}

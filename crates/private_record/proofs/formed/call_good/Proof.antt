@@ -1,4 +1,4 @@
--- `private_record::formed::call_good` meets its contract: what is known at each return gives the case. Assumes nothing.
+-- `private_record::formed::call_good` meets its contract. Assumes nothing.
 use borrow.Author.Tests.{eq-eqb, ne-eqb}
 use borrow.Author.Needs.{needs}
 use Rattle.private_record.proofs.formed.call_good.Statement.{statement}

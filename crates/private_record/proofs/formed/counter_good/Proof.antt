@@ -1,4 +1,4 @@
--- `private_record::formed::counter_good` meets its contract: what is known at each return gives the case. Assumes nothing.
+-- `private_record::formed::counter_good` meets its contract. Assumes nothing.
 use Rattle.private_record.proofs.formed.counter_good.Statement.{statement}
 use Rattle.private_record.proofs.formed.counter_good.Tie as tie
 

@@ -1,4 +1,4 @@
--- `private_record::formed::counters_good` meets its contract: what is known at each return gives the case. Assumes nothing.
+-- `private_record::formed::counters_good` meets its contract. Assumes nothing.
 use borrow.Author.Needs.{needs}
 use Rattle.private_record.proofs.formed.counters_good.Statement.{statement}
 use Rattle.private_record.proofs.formed.counters_good.Tie as tie

@@ -1,4 +1,4 @@
--- `private_record::formed::fields_good` meets its contract: what is known at each return gives the case. Assumes nothing.
+-- `private_record::formed::fields_good` meets its contract. Assumes nothing.
 use borrow.Author.Needs.{needs}
 use Rattle.private_record.proofs.formed.fields_good.Statement.{statement}
 use Rattle.private_record.proofs.formed.fields_good.Tie as tie

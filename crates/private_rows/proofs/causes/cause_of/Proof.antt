@@ -1,4 +1,4 @@
--- `private_rows::causes::cause_of` meets its contract: what is known at each return gives the case. Assumes nothing.
+-- `private_rows::causes::cause_of` meets its contract. Assumes nothing.
 use borrow.Author.Needs.{needs}
 use Rattle.private_rows.proofs.causes.cause_of.Statement.{statement}
 use Rattle.private_rows.proofs.causes.cause_of.Tie as tie

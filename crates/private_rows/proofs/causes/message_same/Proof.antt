@@ -1,4 +1,4 @@
--- `private_rows::causes::message_same` meets its contract: what is known at each return gives the case. Assumes nothing.
+-- `private_rows::causes::message_same` meets its contract. Assumes nothing.
 use borrow.Author.Needs.{needs}
 use Rattle.private_rows.proofs.causes.message_same.Statement.{statement}
 use Rattle.private_rows.proofs.causes.message_same.Tie as tie

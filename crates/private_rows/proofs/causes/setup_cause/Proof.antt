@@ -1,4 +1,4 @@
--- `private_rows::causes::setup_cause` meets its contract: what is known at each return gives the case. Assumes nothing.
+-- `private_rows::causes::setup_cause` meets its contract. Assumes nothing.
 use Rattle.private_rows.proofs.causes.setup_cause.Statement.{statement}
 use Rattle.private_rows.proofs.causes.setup_cause.Tie as tie
 

@@ -1,4 +1,4 @@
--- `private_rows::causes::timer_cause` meets its contract: what is known at each return gives the case. Assumes nothing.
+-- `private_rows::causes::timer_cause` meets its contract. Assumes nothing.
 use borrow.Author.Needs.{needs}
 use Rattle.private_rows.proofs.causes.timer_cause.Statement.{statement}
 use Rattle.private_rows.proofs.causes.timer_cause.Tie as tie

@@ -1,4 +1,4 @@
--- `private_rows::rows::at_phase` meets its contract: what is known at each return gives the case. Assumes nothing.
+-- `private_rows::rows::at_phase` meets its contract. Assumes nothing.
 use borrow.Author.Needs.{needs}
 use Rattle.private_rows.proofs.rows.at_phase.Statement.{statement}
 use Rattle.private_rows.proofs.rows.at_phase.Tie as tie

@@ -1,4 +1,4 @@
--- `private_rows::rows::either` meets its contract: what is known at each return gives the case. Assumes nothing.
+-- `private_rows::rows::either` meets its contract. Assumes nothing.
 use Rattle.private_rows.proofs.rows.either.Statement.{statement}
 use Rattle.private_rows.proofs.rows.either.Tie as tie
 

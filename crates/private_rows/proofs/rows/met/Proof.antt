@@ -1,4 +1,4 @@
--- `private_rows::rows::met` meets its contract: what is known at each return gives the case. Assumes nothing.
+-- `private_rows::rows::met` meets its contract. Assumes nothing.
 use Rattle.private_rows.proofs.rows.met.Statement.{statement}
 use Rattle.private_rows.proofs.rows.met.Tie as tie
 

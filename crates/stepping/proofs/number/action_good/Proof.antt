@@ -1,4 +1,4 @@
--- `stepping::number::action_good` meets its contract: what is known at each return gives the case. Assumes nothing.
+-- `stepping::number::action_good` meets its contract. Assumes nothing.
 use borrow.Author.Needs.{needs}
 use Rattle.stepping.proofs.number.action_good.Statement.{statement}
 use Rattle.stepping.proofs.number.action_good.Tie as tie

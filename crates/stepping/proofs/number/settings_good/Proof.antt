@@ -1,4 +1,4 @@
--- `stepping::number::settings_good` meets its contract: what is known at each return gives the case. Assumes nothing.
+-- `stepping::number::settings_good` meets its contract. Assumes nothing.
 use Rattle.call.specs.Settings.{settingsGood}
 use borrow.Author.Needs.{needs}
 use Rattle.stepping.proofs.number.settings_good.Statement.{statement}

@@ -1,4 +1,4 @@
--- `trial::values::group_call_from` meets its contract: what is known at each return gives the case. Assumes nothing.
+-- `trial::values::group_call_from` meets its contract. Assumes nothing.
 use borrow.Author.Needs.{needs}
 use Rattle.trial.proofs.values.group_call_from.Statement.{statement}
 use Rattle.trial.proofs.values.group_call_from.Tie as tie

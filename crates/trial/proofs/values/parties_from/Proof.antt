@@ -1,4 +1,4 @@
--- `trial::values::parties_from` meets its contract: what is known at each return gives the case. Assumes nothing.
+-- `trial::values::parties_from` meets its contract. Assumes nothing.
 use borrow.Author.Needs.{needs}
 use Rattle.trial.proofs.values.parties_from.Statement.{statement}
 use Rattle.trial.proofs.values.parties_from.Tie as tie

@@ -1,4 +1,4 @@
--- `trial::values::value_at` meets its contract: what is known at each return gives the case. Assumes nothing.
+-- `trial::values::value_at` meets its contract. Assumes nothing.
 use mathlib.Core.Path.{sym}
 use lib.ListN.{List·getD-eq-default}
 use borrow.Author.Needs.{needs}

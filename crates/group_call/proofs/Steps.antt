@@ -12,8 +12,9 @@ use Rattle.writer.specs.Lent.{atFront, lentAfter}
 use Rattle.call.specs.Settings.{settingsGood}
 use Rattle.call.specs.declared.Settings.{Settings}
 use Rattle.call.specs.declared.Input.{Input}
+use Rattle.stepping.specs.Numbers.{numberBeforeRow}
 use Rattle.stepping.specs.Sending.{lineSent, sendNumber, numberSending}
-use Rattle.stepping.proofs.Stepping.{Taken, SentGood, number-passed, tableTests, number-of-table, number-of-tests}
+use Rattle.stepping.proofs.Stepping.{tests-parts, Taken, SentGood, number-passed, tableTests, number-of-table, number-of-tests}
 use Rattle.stepping.proofs.Stepping as stepping
 use Rattle.stepping.proofs.Answers.{by-cases}
 use Rattle.group_record.specs.Formed.{clearedRecord, wellFormed}
@@ -124,6 +125,16 @@ unfolding stepOf stepBuffer
 discards s g i out e r =
     let d = carried-nothing s g i (fit s g (tests-passed s g i e .0 .formed)) r in
     (λ j. stepFrom g out (e j) (r j) (d j), λ j. bufferFrom out (e j) (d j))
+
+-- so once the tests before the rows are passed, an event that meets no row is answered at once
+pub answered-at-once : (s : Settings) (g : GroupRecord) (i : Input) (out : List ℕ) → numberBeforeRow s (wellFormed s g) i ≡ 0 → rowNumber (rowOf s g (i .event)) ≡ 0
+    → (discarded g ≡ stepOf s g i out) × (out ≡ stepBuffer s g i out)
+answered-at-once s g i out e n =
+    let r = same-row (rowOf s g (i .event)) Discard (eq-eqb (rowNumber (rowOf s g (i .event))) 0 n) in
+    let passed : numberBeforeSending s g i ≡ 0 =
+    rw (tests-parts s (wellFormed s g) i (changeTooEarly s g (i .event) (rowOf s g (i .event))), eq-eqb (numberBeforeRow s (wellFormed s g) i) 0 e, ap (changeTooEarly s g (i .event)) r) in
+    let d = discards s g i out passed r in
+    (sym (d .0), sym (d .1))
 
 -- an answer with row 0, be it a discard or a refusal, changes nothing
 pub row-0-keeps : (s : Settings) (g : GroupRecord) (i : Input) (out : List ℕ) → stepOf s g i out .row ≡ 0

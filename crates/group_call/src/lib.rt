@@ -100,6 +100,9 @@ pub fn step(settings: Settings, stored: GroupRecord, input: Input, out: &mut [u8
     }
     let event = input.event;
     let row = row_of(settings, stored, event);
+    if row_number(row) == 0 {
+        return refused(0, stored);
+    }
     if change_too_early(settings, stored, event, row) {
         return refused(8, stored);
     }

@@ -10,8 +10,9 @@ use Rattle.writer.specs.Lent.{lentAfter}
 use Rattle.call.specs.Settings.{settingsGood}
 use Rattle.call.specs.declared.Settings.{Settings}
 use Rattle.call.specs.declared.Input.{Input}
+use Rattle.stepping.specs.Numbers.{numberBeforeRow}
 use Rattle.stepping.specs.Sending.{lineSent, sendNumber}
-use Rattle.stepping.proofs.Stepping.{Taken, SentGood, number-passed}
+use Rattle.stepping.proofs.Stepping.{tests-parts, Taken, SentGood, number-passed}
 use Rattle.stepping.proofs.Stepping as stepping
 use Rattle.stepping.proofs.Answers.{by-cases}
 use Rattle.private_record.specs.Formed.{wellFormed}
@@ -96,6 +97,16 @@ unfolding stepOf stepBuffer
 discards s p i out e r =
     let d = carried-nothing s p i (fit s p (tests-passed s p i e .0 .formed)) r in
     (λ j. stepFrom p out (e j) (r j) (d j), λ j. bufferFrom out (e j) (d j))
+
+-- so once the tests before the rows are passed, an event that meets no row is answered at once
+pub answered-at-once : (s : Settings) (p : PrivateRecord) (i : Input) (out : List ℕ) → numberBeforeRow s (wellFormed s p) i ≡ 0 → rowNumber (rowOf s p i) ≡ 0
+    → (discarded p ≡ stepOf s p i out) × (out ≡ stepBuffer s p i out)
+answered-at-once s p i out e n =
+    let r = same-row (rowOf s p i) Discard (eq-eqb (rowNumber (rowOf s p i)) 0 n) in
+    let passed : numberBeforeSending s p i ≡ 0 =
+    rw (tests-parts s (wellFormed s p) i (identifierTaken s p (i .event) (rowOf s p i)), eq-eqb (numberBeforeRow s (wellFormed s p) i) 0 e, ap (identifierTaken s p (i .event)) r) in
+    let d = discards s p i out passed r in
+    (sym (d .0), sym (d .1))
 
 -- an answer with row 0, be it a discard or a refusal, changes nothing
 pub row-0-keeps : (s : Settings) (p : PrivateRecord) (i : Input) (out : List ℕ) → stepOf s p i out .row ≡ 0

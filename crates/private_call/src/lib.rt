@@ -116,6 +116,9 @@ pub fn step(settings: Settings, stored: PrivateRecord, input: Input, out: &mut [
     }
     let event = input.event;
     let row = row_of(settings, stored, input);
+    if row_number(row) == 0 {
+        return refused(0, stored);
+    }
     if identifier_taken(settings, stored, event, row) {
         return refused(8, stored);
     }

@@ -50,12 +50,12 @@ pub fn write(message: &Message, out: &mut [u8]) -> Result<usize, u32> {
     if !message.in_range() {
         return Err(OUTSIDE);
     }
-    let line = line_of(message);
-    let Some(front) = out.get_mut(..line.len()) else {
+    let length = length_of(message.kind());
+    let Some(front) = out.get_mut(..length) else {
         return Err(SHORT_BUFFER);
     };
-    front.copy_from_slice(&line);
-    Ok(line.len())
+    put_line(front, message.kind(), &message.values());
+    Ok(length)
 }
 
 /// Gives the line of a message whose values all fit their widths, as every message in range does.
@@ -65,14 +65,17 @@ pub fn line_of(message: &Message) -> Vec<u8> {
 
 /// Lays out any values that fit their widths as a line of a kind, and panics if one does not fit.
 pub fn line_with_values(kind: Kind, values: &Values) -> Vec<u8> {
-    let mut line = Vec::with_capacity(2 * kind.total() + 1);
-    push_digits(&mut line, kind.code(), 1);
     for (field, &value) in kind.fields().iter().zip(values) {
         assert!(field.fits(value), "{} {value:#x} is too wide", field.name);
-        push_digits(&mut line, value, field.bytes);
     }
-    line.push(LINE_END);
+    let mut line = vec![LINE_END; length_of(kind)];
+    put_line(&mut line, kind, values);
     line
+}
+
+/// Gives the length of a kind's lines, the line end counted.
+fn length_of(kind: Kind) -> usize {
+    2 * kind.total() + 1
 }
 
 /// Gives what a digit is worth, or nothing for any other byte.
@@ -103,10 +106,23 @@ fn values_of(kind: Kind, mut rest: &[u8]) -> Values {
     values
 }
 
-/// Appends the digits of a value that takes so many bytes.
-fn push_digits(line: &mut Vec<u8>, value: u32, bytes: usize) {
-    for place in (0..2 * bytes).rev() {
-        line.push(DIGITS[(value >> (4 * place)) as usize & 0xf]);
+/// Lays out values that fit their widths as a line of a kind, which is as long as the place for it.
+fn put_line(line: &mut [u8], kind: Kind, values: &Values) {
+    let (front, mut rest) = line.split_at_mut(2);
+    put_digits(front, kind.code());
+    for (field, &value) in kind.fields().iter().zip(values) {
+        let (own, later) = rest.split_at_mut(2 * field.bytes);
+        put_digits(own, value);
+        rest = later;
+    }
+    rest.fill(LINE_END);
+}
+
+/// Fills a place with the digits of a value, the low one last.
+fn put_digits(place: &mut [u8], mut value: u32) {
+    for digit in place.iter_mut().rev() {
+        *digit = DIGITS[value as usize & 0xf];
+        value >>= 4;
     }
 }
 

@@ -23,7 +23,7 @@ for name in panel trial; do
 done
 
 # Where a target is set, cargo would put the program elsewhere.
-build=(build --release --offline --locked --manifest-path host/independent/Cargo.toml --target-dir target/independent)
+build=(build --release --offline --locked --manifest-path host/independent/Cargo.toml --target-dir target/independent --bin compare)
 (cd "$root" && env -u CARGO_BUILD_TARGET "$cargo" "${build[@]}") </dev/null >/dev/null 2>&1 ||
     fail "the program was not built: cargo ${build[*]} says why"
 

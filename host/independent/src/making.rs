@@ -32,12 +32,12 @@ pub fn line(random: &mut Random) -> Vec<u8> {
 }
 
 /// Makes a line that reads without refusal.
-fn good_line(random: &mut Random) -> Vec<u8> {
+pub fn good_line(random: &mut Random) -> Vec<u8> {
     line_of(&message_in_range(random))
 }
 
 /// Makes a line and damages it: a good one or, one time out of four, one with a field out of range.
-fn damaged_line(random: &mut Random) -> Vec<u8> {
+pub fn damaged_line(random: &mut Random) -> Vec<u8> {
     let whole = if random.chance(4) {
         line_of(&message_outside(random))
     } else {
@@ -68,12 +68,7 @@ fn noise(random: &mut Random, most: u64) -> Vec<u8> {
 
 /// Makes two lines for the chooser, so that each answer is common.
 pub fn pair(random: &mut Random) -> (Vec<u8>, Vec<u8>) {
-    let first = announcement(random);
-    let mut second = announcement(random);
-    second.group = first.group;
-    while second.identifier == first.identifier {
-        second.identifier = announcement(random).identifier;
-    }
+    let (first, mut second) = rivals(random);
     let sort = random.below(20);
     match sort {
         8 => second.identifier = first.identifier,
@@ -94,6 +89,23 @@ pub fn pair(random: &mut Random) -> (Vec<u8>, Vec<u8>) {
         lines = (lines.1, lines.0);
     }
     lines
+}
+
+/// Makes two lines that the chooser chooses between.
+pub fn good_pair(random: &mut Random) -> (Vec<u8>, Vec<u8>) {
+    let (first, second) = rivals(random);
+    (announced(first), announced(second))
+}
+
+/// Makes the announcements of two calls of one group.
+fn rivals(random: &mut Random) -> (Announcement, Announcement) {
+    let first = announcement(random);
+    let mut second = announcement(random);
+    second.group = first.group;
+    while second.identifier == first.identifier {
+        second.identifier = announcement(random).identifier;
+    }
+    (first, second)
 }
 
 /// Makes an announcement whose type, start and identifier often tie with another's.
@@ -232,6 +244,19 @@ mod tests {
             assert!(numbers[number] > DRAWS / 50, "{numbers:?}");
         }
         assert!(winners.iter().all(|&met| met > DRAWS / 10), "{winners:?}");
+    }
+
+    /// Between the lines of a good pair there is a choice, and each side wins now and then.
+    #[test]
+    fn good_pairs_are_chosen_between() {
+        let mut random = Random::new(11);
+        let mut winners = [0; 3];
+        for _ in 0..DRAWS {
+            let (first, second) = good_pair(&mut random);
+            winners[chosen(&first, &second) as usize] += 1;
+        }
+        assert_eq!(winners[0], 0);
+        assert!(winners[1..].iter().all(|&met| met > DRAWS / 4));
     }
 
     /// Rivals tie on rank, and on rank and start, often enough.

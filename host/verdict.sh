@@ -35,12 +35,13 @@ judge_refusal() {
 }
 
 # One case of a test with a folder $room: cargo, given the words from the third on, finds as many unit tests in the independent
-# implementation as the second word says, and all of them pass.
+# implementation as the second word says, and all of them pass. The variable `profile` names another profile than that of a release, the
+# variable `archives` another setting of where archives are.
 unit_tests() {
     local name=$1 tests=$2 wrong='' ended passed
     shift 2
-    env -u CARGO_BUILD_TARGET STATICLIB="$(pwd -P)/target/staticlib" cargo test --release --offline --locked \
-        --manifest-path host/independent/Cargo.toml --target-dir target/independent "$@" >"$room/wrote" 2>"$room/said" </dev/null
+    env -u CARGO_BUILD_TARGET "${archives:-STATICLIB=$(pwd -P)/target/staticlib}" cargo test --profile "${profile:-release}" --offline \
+        --locked --manifest-path host/independent/Cargo.toml --target-dir target/independent "$@" >"$room/wrote" 2>"$room/said" </dev/null
     ended=$?
     passed=$(awk '/^test result: ok/ { passed += $4 } END { print passed + 0 }' "$room/wrote")
     [ $ended -eq 0 ] || wrong="status $ended $(cat "$room/wrote" "$room/said" | grep -m 1 -e '^test .* FAILED' -e '^error')"

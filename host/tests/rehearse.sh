@@ -33,9 +33,9 @@ verdict "host/rehearse.sh builds all it needs, and --help says how to call it" \
 [ $status -eq 0 ] || exit $status
 mapfile -t drill < <(bash host/program.sh --command drill)
 
-# Those of the program compare are host/tests/compare.sh's, since it needs the archives.
-unit_tests "all other unit tests of the independent implementation than those of compare pass" \
-    "$(grep -rhF --exclude-dir=compare '#[test]' host/independent/src | wc -l)" --lib --bin rehearse
+# Those of the programs compare and speed are tried by the tests of their names, since they need archives.
+unit_tests "all other unit tests of the independent implementation than those of compare and speed pass" \
+    "$(grep -rhF --exclude-dir=compare --exclude-dir=speed '#[test]' host/independent/src | wc -l)" --lib --bin rehearse
 
 # ---- no difference
 

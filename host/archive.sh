@@ -51,16 +51,23 @@ stand_in() {
     link_all "$kit/$tools/bin" "$native/$tools/bin" clang || return
     cat >"$native/$tools/bin/clang" <<END || return
 #!/usr/bin/env bash
-# The kit's compiler, asked for $machine where it is asked for x86-64.
-words=(-Wno-override-module)
+# The kit's compiler, asked for $machine where it is asked for x86-64. The module goes through it as text, so that the name of an x86
+# processor can be taken out of it: with a processor that it does not know the compiler makes poorer code.
+clang=$(printf %q "$kit/$tools/bin/clang")
+own=(--target=$machine-unknown-linux-gnu -Wno-override-module)
+words=()
 for word in "\$@"; do
     case \$word in
-    --target=x86_64-unknown-linux-gnu) words+=(--target=$machine-unknown-linux-gnu) ;;
-    -march=x86-64 | -Werror) ;;
+    --target=x86_64-unknown-linux-gnu | -march=x86-64 | -Werror) ;;
+    *.bc)
+        "\$clang" "\${own[@]}" --no-default-config -Xclang -disable-llvm-passes -S -emit-llvm -x ir "\$word" -o "\$word.ll" || exit
+        sed -i 's/ "target-cpu"="x86-64"//' "\$word.ll" || exit
+        words+=("\$word.ll")
+        ;;
     *) words+=("\$word") ;;
     esac
 done
-exec $(printf %q "$kit/$tools/bin/clang") "\${words[@]}"
+exec "\$clang" "\${own[@]}" "\${words[@]}"
 END
     chmod +x "$native/$tools/bin/clang"
 }

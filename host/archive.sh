@@ -90,9 +90,9 @@ else
     kept=$made.kept
     [ ! -e "$made" ] || mv "$made" "$kept" || fail "$made cannot be moved"
     make "$root/target/native" && mv "$made" "$folder/"
-    done=$?
+    ended=$?
     rm -f "$made"
     [ ! -e "$kept" ] || mv "$kept" "$made"
-    [ $done -eq 0 ] || fail "no archive of $name for $machine: RATTLE_HOME=target/native rt staticlib $name says why"
+    [ $ended -eq 0 ] || fail "no archive of $name for $machine: RATTLE_HOME=target/native rt staticlib $name says why"
 fi
 echo "$now" >"$folder/lib$name.state" || fail "$folder cannot be written"

@@ -24,14 +24,14 @@ command -v ar >/dev/null || fail "ar, which makes archives of objects, is not on
 
 # Compiles the C into the archive of the first word, in a folder of its own, and leaves an archive alone that is the same.
 baseline() {
-    local objects done
+    local objects ended
     objects=$(mktemp -d) || return
     # shellcheck disable=SC2086
     (cd "$objects" && ${CC:-cc} -std=c99 -O3 -Wall -Wextra -Werror -c "$sources"/{plain,table,best}.c && ar rcsD all.a ./*.o) &&
         { cmp -s "$objects/all.a" "$1" || mv "$objects/all.a" "$1"; }
-    done=$?
+    ended=$?
     rm -rf "$objects"
-    return $done
+    return $ended
 }
 
 [ -e "$SPEEDLIB/libpace.a" ] || echo "speed: proving and building it first: a few minutes, once" >&2
@@ -47,4 +47,6 @@ env -u CARGO_BUILD_TARGET -u STATICLIB "$cargo" "${build[@]}" </dev/null >/dev/n
 
 kit=${RATTLE_HOME:-$(dirname "$(dirname "$(readlink -f "$rt")")")}
 rattle=$("$kit/on/$(uname -m)/toolchain/bin/clang" --version 2>/dev/null | head -n 1)
-exec target/independent/speed/speed --compilers "C $compiler; Rust $(rustc --version 2>/dev/null); Rattle ${rattle:-an unknown compiler}" "$@"
+rust=$(rustc --version 2>/dev/null)
+compilers="C by $compiler at -O3, Rust by ${rust:-rustc} at its level 3, Rattle by the kit's ${rattle:-compiler} at -O3"
+exec target/independent/speed/speed --compilers "$compilers" "$@"

@@ -47,7 +47,8 @@ unit_tests "all unit tests of the program speed pass" "$(grep -rhF '#[test]' hos
 
 # ---- the figures
 
-# One case: of the last run, the table whose first line is the second word has just the rows of the others, each with a number in every column.
+# One case: of the last run, the table whose first line is the second word has just the rows of the others, each with a number in every
+# column.
 table() {
     local name=$1 head=$2 wrong='' row columns
     shift 2
@@ -61,7 +62,8 @@ table() {
 }
 run --quick --seed 7
 verdict "a quick run ends well, says that it is one, its seed and the machine" \
-    "$(wrongs 0; for line in '^Measured on: .*[^ ], [a-z0-9_]*\.$' '^Compiled with: C .*; Rust .*; Rattle .*\.$' '^Seed 7; [0-9]* rounds, ' '^A quick run: '; do
+    "$(wrongs 0; for line in '^Measured on: .*[^ ], [a-z0-9_]*\.$' '^Compiled: C by .*, Rust by rustc .*, Rattle by .*\.$' \
+        '^Inputs: .*, from seed 7\.$' '^Each figure is the median of [0-9]* rounds, ' '^A quick run: '; do
         grep -q "$line" "$room/wrote" || echo "no line $line"
     done)"
 others='plain C|plain Rust|table C|best scalar C'

@@ -59,6 +59,15 @@ impl Pieces {
     }
 }
 
+/// Says what the inputs are.
+pub fn told(seed: u64) -> String {
+    format!(
+        "Inputs: {COUNT} lines of all kinds, one in {DAMAGED} damaged, in logs of {LINES_A_LOG}; \
+         {COUNT} pairs of announcements, one in {DAMAGED} of any sort; \
+         scripts of {COUNT} steps, from seed {seed}."
+    )
+}
+
 /// All inputs.
 pub struct Inputs {
     lines: Pieces,
@@ -123,7 +132,8 @@ impl Inputs {
         lines
     }
 
-    /// Lists logs of one of the sizes, 65,536 bytes together: each begins with a line, and is cut where it is long enough.
+    /// Lists logs of one of the sizes, 65,536 bytes together: each begins with a line, and is cut
+    /// where it is long enough.
     pub fn logs_of(&self, size: usize) -> Vec<&[u8]> {
         let all = &self.lines.bytes;
         let mut logs = Vec::new();

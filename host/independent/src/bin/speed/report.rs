@@ -2,6 +2,7 @@
 
 use crate::contest::Contest;
 use crate::contests::Contests;
+use crate::inputs;
 use crate::machine::other_kind;
 use crate::options::Options;
 
@@ -10,7 +11,7 @@ pub fn text(contests: &Contests, machine: &str, options: &Options, rounds: usize
     let [checked, _, answered] = &contests.questions;
     let parts = [
         front(machine, options, rounds),
-        "Nanoseconds for one, and how many times as long Rattle takes as each other does; below 1 it is faster.".to_string(),
+        "Nanoseconds for one, and how many times as long Rattle takes as each other; below 1 it is faster.".to_string(),
         ratios(&contests.questions),
         "Nanoseconds for one step, and how many times as long Rattle takes as Rust.".to_string(),
         steps(&contests.steps),
@@ -29,12 +30,13 @@ fn front(machine: &str, options: &Options, rounds: usize) -> String {
         options
             .compilers
             .as_ref()
-            .map(|text| format!("Compiled with: {text}.")),
+            .map(|text| format!("Compiled: {text}.")),
     );
     front.extend(other_kind());
+    front.push(inputs::told(options.seed));
     front.push(format!(
-        "Seed {}; {rounds} rounds, each over all inputs by every implementation in turn; each figure is the median of the rounds.",
-        options.seed
+        "Each figure is the median of {rounds} rounds, in which every implementation in turn goes \
+         over all inputs."
     ));
     if options.quick {
         front.push("A quick run: its figures mean little.".to_string());

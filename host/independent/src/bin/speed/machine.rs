@@ -12,7 +12,10 @@ pub fn told() -> String {
 /// Says, where the machine is not of the product's kind, what the archives are then.
 pub fn other_kind() -> Option<String> {
     (ARCH != "x86_64").then(|| {
-        format!("Rattle is here the same module as the product's for x86-64, compiled for {ARCH}.")
+        format!(
+            "Rattle is here the same module as the product's for x86-64, but for the name of an x86 \
+             processor, compiled for {ARCH}."
+        )
     })
 }
 

@@ -1,6 +1,6 @@
 -- A choice is made exactly where one can choose, and whichever comes first. Assumes nothing.
 use Prim.Native.Nat.{ℕ}
-use mathlib.Core.Path.{_≡_, refl, sym, ap₂}
+use mathlib.Core.Path.{_≡_, refl, sym, ap₂, _∙_}
 use mathlib.Core.List.{List}
 use mathlib.Core.Bool.{Bool, true, false, not, cond, _&&_, false≢true}
 use native.Mathlib.Omega.{arith}
@@ -9,7 +9,7 @@ use borrow.Author.Tests.{eqb-true, eqb-false, eq-eqb, ne-eqb}
 use Rattle.frame.specs.declared.GroupCall.{GroupCall}
 use Rattle.group_order.specs.Order.{isBetter}
 use Rattle.group_order.proofs.Order.{either-way}
-use Rattle.chooser.specs.Choice.{lineAnnounced, callsChoosable, choosable, linesChoosable, callsChoice, choiceBetween, choiceOf}
+use Rattle.chooser.specs.Choice.{lineAnnounced, askedOfLine, callsChoosable, choosable, linesChoosable, callsChoice, choiceBetween, choiceOf}
 use Rattle.chooser.specs.declared.LineCall.{LineCall}
 use Rattle.chooser.specs.declared.LineCall.the-variants.{Call, Nothing}
 
@@ -22,6 +22,20 @@ calls-chosen a b better h k = rw (h, k)
 -- between which one cannot choose: neither is chosen
 pub calls-kept : (a b : GroupCall) → callsChoosable a b ≡ false → 0 ≡ callsChoice a b
 calls-kept a b h = rw h
+
+-- ---- what a choice asks
+
+-- it is the same whether all of a call is there or only what is asked of it
+asked-alone : (a b : LineCall) → choiceBetween (askedOfLine a) (askedOfLine b) ≡ choiceBetween a b
+asked-alone (Call a) (Call b) = refl
+asked-alone (Call a) Nothing = refl
+asked-alone Nothing b = refl
+
+-- so it can be made by what is asked of two lines
+pub by-asked : (p q : LineCall) (first second : List ℕ) → p ≡ askedOfLine (lineAnnounced first) → q ≡ askedOfLine (lineAnnounced second)
+    → choiceBetween p q ≡ choiceOf first second
+unfolding choiceOf
+by-asked p q first second e f = ap₂ choiceBetween e f ∙ asked-alone (lineAnnounced first) (lineAnnounced second)
 
 -- ---- where one can choose
 

@@ -38,6 +38,26 @@ announcedIn (Refused n) = Nothing
 abbrev pub lineAnnounced : List ℕ → LineCall
 lineAnnounced l = announcedIn (lineMessage l)
 
+-- ---- what a choice asks of it
+
+-- of a call: identifier, group, type and start; the rest does not count, and is 0
+abbrev pub askedOf : GroupCall → GroupCall
+askedOf c = record {
+  identifier = c .identifier;
+  group = c .group;
+  «call_type» = c .«call_type»;
+  refresh = 0;
+  originator = 0;
+  start = c .start;
+  «last_change» = 0;
+  «last_changer» = 0;
+}
+
+-- of what a line announces
+abbrev pub askedOfLine : LineCall → LineCall
+askedOfLine (Call c) = Call (askedOf c)
+askedOfLine Nothing = Nothing
+
 -- ---- whether there is a choice
 
 -- two calls: their group is the same, and their identifiers differ

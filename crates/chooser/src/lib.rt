@@ -1,7 +1,7 @@
 // The chooser: of two lent announcement lines the one whose call is better, itself and no copy.
 ghost use mathlib.Core.Path.{_≡_};
-ghost use Rattle.chooser.specs.Choice.{announcedBy, lineAnnounced, callsChoice, choiceOf, choiceNumber};
-ghost use Rattle.chooser.specs.Choice.{place, placeOf};
+ghost use Rattle.chooser.specs.Choice.{announcedBy, lineAnnounced, askedOf, askedOfLine};
+ghost use Rattle.chooser.specs.Choice.{callsChoice, choiceOf, choiceNumber, place, placeOf};
 use frame::GroupCall;
 use frame::Message;
 use reader::Read;
@@ -12,9 +12,25 @@ enum LineCall {
     Nothing,
 }
 
-// The call that a message announces, if it is an announcement.
+// A call with what a choice asks of it, and nothing else: what is not asked for need not be read from the line.
+fn asked_of(call: GroupCall) -> GroupCall
+    ensures { λ r. ⌜ r ≡ askedOf call ⌝ }
+{
+    GroupCall {
+        identifier: call.identifier,
+        group: call.group,
+        call_type: call.call_type,
+        refresh: 0,
+        originator: 0,
+        start: call.start,
+        last_change: 0,
+        last_changer: 0,
+    }
+}
+
+// What a choice asks of the call that a message announces, if it is an announcement.
 fn announced_by(message: Message) -> LineCall
-    ensures { λ r. ⌜ r ≡ announcedBy message ⌝ }
+    ensures { λ r. ⌜ r ≡ askedOfLine (announcedBy message) ⌝ }
 {
     match message {
         Message::SetupRequest(_, _) => LineCall::Nothing,
@@ -24,14 +40,14 @@ fn announced_by(message: Message) -> LineCall
         Message::Release(_) => LineCall::Nothing,
         Message::ReleaseAck(_) => LineCall::Nothing,
         Message::AcceptAck(_) => LineCall::Nothing,
-        Message::Announcement(call, _) => LineCall::Call(call),
+        Message::Announcement(call, _) => LineCall::Call(asked_of(call)),
         Message::GroupAccept(_) => LineCall::Nothing,
     }
 }
 
-// The call that a line announces, if the line is readable and an announcement.
+// The same of a line, if it is readable and an announcement.
 fn line_announced(line: &[u8]) -> LineCall
-    ensures { λ r. ⌜ r ≡ lineAnnounced (now (line .entry)) ⌝ }
+    ensures { λ r. ⌜ r ≡ askedOfLine (lineAnnounced (now (line .entry))) ⌝ }
 {
     let reading = reader::read_line(line);
     let read = reading.read;

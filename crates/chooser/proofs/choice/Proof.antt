@@ -1,24 +1,27 @@
 -- `chooser::choice` meets its contract: what the two lines announce gives the case. Assumes nothing.
-use Rattle.chooser.specs.Choice.{choiceOf}
+use mathlib.Core.Path.{sym, _∙_}
+use Rattle.chooser.proofs.Laws.{by-asked}
 use borrow.Author.Needs.{needs}
 use Rattle.chooser.proofs.choice.Statement.{statement}
 use Rattle.chooser.proofs.choice.Tie as tie
 
 returns : tie.Need-returns
-unfolding choiceOf
 returns c =
     let one = c .before .before .before .before .before in
-    rw (c .calls-choice .ensures, ← one .before .before .line-announced2 .ensures, ← one .before .before .before .line-announced .ensures, c .before .before .other .given .1, one .one .given .1)
+    let first = one .before .before .before .line-announced in
+    let second = one .before .before .line-announced2 in
+    c .calls-choice .ensures ∙ by-asked _ _ _ _ (sym (one .one .given .1) ∙ first .ensures) (sym (c .before .before .other .given .1) ∙ second .ensures)
 
 returns-2 : tie.Need-returns-2
-unfolding choiceOf
 returns-2 c =
     let one = c .before .before .before in
-    rw (← one .before .before .line-announced2 .ensures, ← one .before .before .before .line-announced .ensures, c .enum-told .given .1, one .one .given .1)
+    let first = one .before .before .before .line-announced in
+    let second = one .before .before .line-announced2 in
+    by-asked _ _ _ _ (sym (one .one .given .1) ∙ first .ensures) (sym (c .enum-told .given .1) ∙ second .ensures)
 
 returns-3 : tie.Need-returns-3
-unfolding choiceOf
-returns-3 c = rw (← c .before .before .line-announced2 .ensures, ← c .before .before .before .line-announced .ensures, c .enum-told2 .given .1)
+returns-3 c =
+    by-asked _ _ _ _ (sym (c .enum-told2 .given .1) ∙ c .before .before .before .line-announced .ensures) (c .before .before .line-announced2 .ensures)
 
 pub choice-spec : {M : Type 1} → statement M
 choice-spec =

@@ -1,7 +1,7 @@
 #!/usr/bin/env bash
 # host/compare.sh [WORDS...]: gives random inputs to the proved implementation and to the independent one of host/independent, and looks
-# for a difference; --help says what the words may be. Before that it builds, quietly but for a line the first time: each call proves the
-# crates panel and trial and writes their archives for C anew, and builds the program that links them where anything has changed.
+# for a difference; --help says what the words may be. Before that it builds, quietly but for a line the first time, where anything has
+# changed: the archives of panel and trial, proved and made for this machine, and the program that links them.
 set -u
 root=$(cd "$(dirname "${BASH_SOURCE[0]}")/.." && pwd -P) || exit 2
 
@@ -11,15 +11,13 @@ fail() {
     exit 2
 }
 
-[ "$(uname -m)" = x86_64 ] || fail "the archives are for x86-64, and this machine is not"
-rt=$(command -v rt) || fail "rt, the command of the Rattle kit, is not on the PATH"
+command -v rt >/dev/null || fail "rt, the command of the Rattle kit, is not on the PATH"
 cargo=$(command -v cargo) || fail "cargo, the command of the Rust toolchain, is not on the PATH"
 
-export STATICLIB=$root/target/staticlib
-[ -e "$STATICLIB/libtrial.a" ] || echo "compare: proving and building it first: a minute or two, once" >&2
+export STATICLIB=$root/target/archives
+[ -e "$STATICLIB/libtrial.a" ] || echo "compare: proving and building it first: a few minutes, once" >&2
 for name in panel trial; do
-    (cd "$root" && "$rt" staticlib "$name") </dev/null >/dev/null 2>&1 || fail "no archive of $name: rt staticlib $name says why"
-    [ -f "$STATICLIB/lib$name.a" ] || fail "rt staticlib $name left no archive in target/staticlib"
+    told=$(bash "$root/host/archive.sh" $name "$STATICLIB" 2>&1) || fail "${told#archive: }"
 done
 
 # Where a target is set, cargo would put the program elsewhere.

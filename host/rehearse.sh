@@ -18,7 +18,7 @@ mapfile -t drill <<<"$words"
 # Where a target is set, cargo would put the program elsewhere. The archives are named as host/compare.sh names them, so that neither
 # undoes what the other has built; this program does without them.
 build=(build --release --offline --locked --manifest-path host/independent/Cargo.toml --target-dir target/independent --bin rehearse)
-(cd "$root" && env -u CARGO_BUILD_TARGET STATICLIB="$root/target/staticlib" "$cargo" "${build[@]}") </dev/null >/dev/null 2>&1 ||
+(cd "$root" && env -u CARGO_BUILD_TARGET STATICLIB="$root/target/archives" "$cargo" "${build[@]}") </dev/null >/dev/null 2>&1 ||
     fail "the program was not built: cargo ${build[*]} says why"
 
 exec "$root/target/independent/release/rehearse" "$@" -- "${drill[@]}"

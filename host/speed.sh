@@ -6,7 +6,7 @@
 set -u
 root=$(cd "$(dirname "${BASH_SOURCE[0]}")/.." && pwd -P) || exit 2
 sources=$(cd "${BASELINE:-$root/host/speed}" 2>/dev/null && pwd -P)
-export SPEEDLIB=$root/target/speed
+export SPEEDLIB=$root/target/archives
 
 # Says one line on standard error and gives up.
 fail() {

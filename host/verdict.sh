@@ -40,7 +40,7 @@ judge_refusal() {
 unit_tests() {
     local name=$1 tests=$2 wrong='' ended passed
     shift 2
-    env -u CARGO_BUILD_TARGET "${archives:-STATICLIB=$(pwd -P)/target/staticlib}" cargo test --profile "${profile:-release}" --offline \
+    env -u CARGO_BUILD_TARGET "${archives:-STATICLIB=$(pwd -P)/target/archives}" cargo test --profile "${profile:-release}" --offline \
         --locked --manifest-path host/independent/Cargo.toml --target-dir target/independent "$@" >"$room/wrote" 2>"$room/said" </dev/null
     ended=$?
     passed=$(awk '/^test result: ok/ { passed += $4 } END { print passed + 0 }' "$room/wrote")

@@ -11,8 +11,6 @@ struct Linked {
     program: &'static str,
     /// The variable that names the folder of the archives.
     variable: &'static str,
-    /// The folder below `target` where the variable does not name one.
-    own: &'static str,
     /// The archives' names, without what every archive's name has around it.
     archives: &'static [&'static str],
 }
@@ -22,13 +20,11 @@ const PROGRAMS: [Linked; 2] = [
     Linked {
         program: "compare",
         variable: "STATICLIB",
-        own: "staticlib",
         archives: &["panel", "trial"],
     },
     Linked {
         program: "speed",
         variable: "SPEEDLIB",
-        own: "speed",
         archives: &["panel", "trial", "pace", "baseline"],
     },
 ];
@@ -46,7 +42,7 @@ fn main() {
 fn name_archives(linked: &Linked) {
     let named = env::var_os(linked.variable).filter(|folder| !folder.is_empty());
     for name in linked.archives {
-        let archive = folder(named.as_ref(), linked.own).join(format!("lib{name}.a"));
+        let archive = folder(named.as_ref()).join(format!("lib{name}.a"));
         if named.is_some() || archive.exists() {
             println!("cargo:rerun-if-changed={}", archive.display());
         }
@@ -56,10 +52,10 @@ fn name_archives(linked: &Linked) {
 }
 
 /// Gives a folder of archives: the one that is named, else the repository's own.
-fn folder(named: Option<&OsString>, own: &str) -> PathBuf {
+fn folder(named: Option<&OsString>) -> PathBuf {
     if let Some(named) = named {
         return PathBuf::from(named);
     }
     let package = env::var_os("CARGO_MANIFEST_DIR").expect("cargo names the package");
-    PathBuf::from(package).join("../../target").join(own)
+    PathBuf::from(package).join("../../target/archives")
 }

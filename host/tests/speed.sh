@@ -27,7 +27,7 @@ made() { cksum target/staticlib/* 2>/dev/null; }
 
 # Built ahead of the case, so that it does not see it being built for the first time.
 made >"$room/before"
-[ -e target/speed/libpace.a ] || bash host/speed.sh --help </dev/null >/dev/null 2>&1
+[ -e target/archives/libpace.a ] || bash host/speed.sh --help </dev/null >/dev/null 2>&1
 
 run --help
 verdict "host/speed.sh builds all it needs, and --help says how to call it" \
@@ -43,7 +43,7 @@ fi
 
 # As host/speed.sh builds the program, so that neither undoes what the other has built.
 unset STATICLIB
-profile=speed archives=SPEEDLIB=$(pwd -P)/target/speed
+profile=speed archives=SPEEDLIB=$(pwd -P)/target/archives
 unit_tests "all unit tests of the program speed pass" "$(grep -rhF '#[test]' host/independent/src/bin/speed | wc -l)" --bin speed
 
 # ---- the figures
@@ -71,7 +71,8 @@ others='plain C|plain Rust|table C|best scalar C'
 table "line check, chooser and answer stand against each other implementation" \
     "|  | Rattle, ns | to plain C | to plain Rust | to table C | to best scalar C |" \
     'line check \(a line\)' 'chooser \(a pair\)' 'answer to a log \(a line\)'
-table "both steps stand against Rust" "|  | Rattle, ns | Rust, ns | ratio |" 'private step' 'group step'
+table "both steps stand against Rust" "|  | Rattle, ns | Rust, ns | ratio |" \
+    'private step, whole calls' 'private step, any inputs' 'group step, whole calls' 'group step, any inputs'
 table "each implementation has its lines and bytes a second" \
     "|  | lines checked | bytes checked | lines answered | bytes answered |" Rattle 'plain C' 'plain Rust' 'table C' 'best scalar C'
 table "cost stands against size, from one line to 65,536 bytes" "|  | Rattle | ${others//|/ | } |" \

@@ -16,8 +16,8 @@ pub fn all(inputs: &Inputs) -> Result<(), String> {
     lines(inputs)?;
     pairs(inputs)?;
     logs(inputs)?;
-    for (machine, script) in MACHINES.iter().zip(&inputs.scripts) {
-        scripts(machine, inputs, script)?;
+    for (machine, long) in MACHINES.iter().zip(&inputs.scripts) {
+        scripts(machine, inputs, long)?;
     }
     Ok(())
 }
@@ -57,13 +57,12 @@ fn logs(inputs: &Inputs) -> Result<(), String> {
     Ok(())
 }
 
-/// Compares what the two implementations of a machine make of its script and of many short ones, with
+/// Compares what the two implementations of a machine make of its scripts and of many short ones, with
 /// buffers of many lengths.
-fn scripts(machine: &Machine, inputs: &Inputs, script: &[u8]) -> Result<(), String> {
-    let shorts = inputs.short_scripts.iter().map(Vec::as_slice);
-    let rooms = ROOMS.into_iter().cycle();
-    let long = (script, LONGEST_LINE);
-    for (script, room) in [long].into_iter().chain(shorts.zip(rooms)) {
+fn scripts(machine: &Machine, inputs: &Inputs, long: &[Vec<u8>]) -> Result<(), String> {
+    let shorts = inputs.short_scripts.iter().zip(ROOMS.into_iter().cycle());
+    let longs = long.iter().map(|script| (script, LONGEST_LINE));
+    for (script, room) in longs.chain(shorts) {
         let played = |steps: Steps| {
             let mut out = vec![BEFORE; room];
             (steps(script, &mut out), out)

@@ -15,7 +15,7 @@ const FEWEST: usize = 3;
 pub struct Contests<'a> {
     /// Line check, chooser and answer to a log.
     pub questions: [Contest<'a>; 3],
-    /// A step of each machine.
+    /// A step of each machine, in whole calls and among any inputs.
     pub steps: Vec<Contest<'a>>,
     /// The answer to logs of one line and of each size.
     pub sizes: Vec<Contest<'a>>,
@@ -97,16 +97,19 @@ fn answering<'a>(name: &str, logs: &[&'a [u8]]) -> Contest<'a> {
 
 /// The contests of the steps.
 fn stepping(inputs: &Inputs) -> Vec<Contest<'_>> {
-    let machines = MACHINES.iter().zip(&inputs.scripts);
-    let contests = machines.map(|(machine, script)| {
-        let mut contest = Contest::new(machine.name, script.len(), script.len());
-        for (name, steps) in machine.steps {
-            let mut out = [0; LONGEST_LINE];
-            contest.enter(name, move || {
-                black_box(steps(black_box(script), &mut out));
-            });
+    let mut contests = Vec::new();
+    for (machine, scripts) in MACHINES.iter().zip(&inputs.scripts) {
+        for (sort, script) in ["whole calls", "any inputs"].iter().zip(scripts) {
+            let name = format!("{}, {sort}", machine.name);
+            let mut contest = Contest::new(&name, script.len(), script.len());
+            for (name, steps) in machine.steps {
+                let mut out = [0; LONGEST_LINE];
+                contest.enter(name, move || {
+                    black_box(steps(black_box(script), &mut out));
+                });
+            }
+            contests.push(contest);
         }
-        contest
-    });
-    contests.collect()
+    }
+    contests
 }

@@ -87,6 +87,9 @@ pub type Steps = fn(&[u8], &mut [u8]) -> usize;
 pub struct Machine {
     pub name: &'static str,
     pub steps: [(&'static str, Steps); 2],
+    /// Scripts of whole calls: from the cleared record each step meets a row, and the last one clears
+    /// the record again.
+    pub calls: &'static [&'static [u8]],
 }
 
 /// Both machines.
@@ -97,12 +100,20 @@ pub const MACHINES: [Machine; 2] = [
             (Rattle::NAME, entries::private_steps),
             ("Rust", scripts::private_steps),
         ],
+        calls: &[&[0, 1, 2, 3, 4, 5], &[0, 10, 2, 3, 4, 5], &[6, 7, 8, 9, 5]],
     },
     Machine {
         name: "group step",
         steps: [
             (Rattle::NAME, entries::group_steps),
             ("Rust", scripts::group_steps),
+        ],
+        calls: &[
+            &[0, 1, 2, 1, 5],
+            &[0, 4, 1, 5],
+            &[2, 6, 1, 2, 5],
+            &[3, 7],
+            &[2, 8],
         ],
     },
 ];

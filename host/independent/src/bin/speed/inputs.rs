@@ -1,6 +1,6 @@
 //! The inputs that every implementation is given, all of them made from one seed.
 
-use crate::implementations::Pair;
+use crate::implementations::{Pair, MACHINES};
 use independent::line::LINE_END;
 use independent::log::MOST;
 use independent::making;
@@ -64,7 +64,7 @@ pub fn told(seed: u64) -> String {
     format!(
         "Inputs: {COUNT} lines of all kinds, one in {DAMAGED} damaged, in logs of {LINES_A_LOG}; \
          {COUNT} pairs of announcements, one in {DAMAGED} of any sort; \
-         scripts of {COUNT} steps, from seed {seed}."
+         scripts of some {COUNT} steps, from seed {seed}."
     )
 }
 
@@ -74,8 +74,8 @@ pub struct Inputs {
     firsts: Pieces,
     seconds: Pieces,
     logs: Pieces,
-    /// Scripts for the private and the group machine.
-    pub scripts: [Vec<u8>; 2],
+    /// Scripts for the private and the group machine, each with one of whole calls and one of any inputs.
+    pub scripts: [[Vec<u8>; 2]; 2],
     /// Scripts for either machine that are not measured, every other one of any bytes.
     pub short_scripts: Vec<Vec<u8>>,
 }
@@ -86,7 +86,12 @@ impl Inputs {
         let mut random = Random::new(seed);
         let lines: Vec<Vec<u8>> = (0..COUNT).map(|_| line(&mut random)).collect();
         let pairs: Vec<(Vec<u8>, Vec<u8>)> = (0..COUNT).map(|_| pair(&mut random)).collect();
-        let scripts = [(); 2].map(|()| script(&mut random, COUNT, INPUTS));
+        let scripts = MACHINES.map(|machine| {
+            [
+                calls(&mut random, machine.calls),
+                script(&mut random, COUNT, INPUTS),
+            ]
+        });
         let short_scripts = (0..SHORT_SCRIPTS).map(|place| {
             let length = random.below(SHORT) as usize;
             script(&mut random, length, [INPUTS, 256][place % 2])
@@ -167,6 +172,15 @@ fn pair(random: &mut Random) -> (Vec<u8>, Vec<u8>) {
     }
 }
 
+/// Makes a script of whole calls, one after the other.
+fn calls(random: &mut Random, calls: &[&[u8]]) -> Vec<u8> {
+    let mut script = Vec::new();
+    while script.len() < COUNT {
+        script.extend(calls[random.below(calls.len() as u64) as usize]);
+    }
+    script
+}
+
 /// Makes a script of so many bytes below a bound.
 fn script(random: &mut Random, length: usize, bound: u64) -> Vec<u8> {
     (0..length).map(|_| random.below(bound) as u8).collect()
@@ -227,6 +241,17 @@ mod tests {
         assert_eq!(one.scripts, again.scripts);
         assert_ne!(one.lines(), other.lines());
         assert_ne!(one.scripts, other.scripts);
-        assert!(one.scripts.iter().all(|script| script.contains(&11)));
+        assert!(one.scripts.iter().all(|[_, any]| any.contains(&11)));
+    }
+
+    /// In whole calls each step meets a row, among any inputs less than half of them.
+    #[test]
+    fn rows_met() {
+        let inputs = Inputs::new(6);
+        for (machine, [calls, any]) in MACHINES.iter().zip(&inputs.scripts) {
+            let met = |script: &[u8]| (machine.steps[1].1)(script, &mut [0; LONGEST_LINE]);
+            assert_eq!(met(calls), calls.len(), "{}", machine.name);
+            assert!(met(any) < any.len() / 2, "{}", machine.name);
+        }
     }
 }

@@ -7,9 +7,7 @@ use native.Mathlib.Numerals.{add-one}
 use native.Mathlib.Omega.{arith}
 use lib.ListN.{length, getD, drop, drop-of-length-le}
 use lib.Seq.{drop-cons}
-use Rattle.call.specs.declared.Settings.{Settings}
-use Rattle.call.specs.declared.Input.{Input}
-use Rattle.pace.specs.Script.{player, rowMet}
+use Rattle.pace.specs.Script.{rowMet}
 use Rattle.pace.specs.Played.{Play, rowsMetFrom, bufferFrom, rowsMet, bufferAfter}
 
 -- a script played up to a place: the rows met so far and those that the rest meets make all, and the rest leaves the buffer that the whole does
@@ -18,10 +16,6 @@ SoFar play script lent out p met at =
     (met ≤ at) × (at ≤ length script) × (length out ≡ length lent)
     × (met + rowsMetFrom play p out (drop at script) ≡ rowsMet play lent script)
     × (bufferFrom play p out (drop at script) ≡ bufferAfter play lent script)
-
--- what a step answers, once the settings and the input are known
-pub by-byte : {A : Type 0} (answer : Settings → Input → A) {s : Settings} {i : Input} {x : A} (input : Input) → x ≡ answer s i → s ≡ player → i ≡ input → x ≡ answer player input
-by-byte answer {s} {i} input e f g = e ∙ ap (λ (t : Settings). answer t i) f ∙ ap (answer player) g
 
 -- the beginning
 pub begun : {Stored : Type 0} (play : Play Stored) (script lent : List ℕ) (p : Stored) → p ≡ play .first → SoFar play script lent lent p 0 0

@@ -1,11 +1,6 @@
 // Who plays a script, and what each of its bytes stands for.
 ghost use mathlib.Core.Path.{_≡_};
-ghost use Rattle.call.specs.declared.Event.{Event};
-ghost use Rattle.call.specs.declared.GroupAction.{GroupAction};
-ghost use Rattle.call.specs.declared.PrivateAction.{PrivateAction};
-ghost use Rattle.frame.specs.declared.Message.the-variants.{GroupAccept};
-ghost use Rattle.pace.specs.Script.{player, ours, ourStart, theirs, theirSetup, groupStart, groupRaise, accepted};
-ghost use Rattle.pace.specs.Script.{acts, actsInGroup, announces, privateEvent, groupEvent};
+ghost use Rattle.pace.specs.Script.{announces, privateEvent, groupEvent};
 ghost use Rattle.pace.specs.Script.{mediaBy, inputWith, privateInput, groupInput};
 use call::Action;
 use call::Counters;
@@ -29,89 +24,76 @@ use frame::Parties;
 use frame::Setup;
 
 // User 7 of group 3, who is asked before a group call is joined, every limit 3.
-pub(crate) fn crew() -> Settings
-    ensures { λ r. ⌜ r ≡ player ⌝ }
-{
-    Settings {
-        own_user: 7,
-        own_group: 3,
-        restrict: false,
-        acknowledgement: true,
-        limits: Counters {
-            cfp1: 3,
-            cfp3: 3,
-            cfp4: 3,
-        },
-    }
-}
+pub(crate) const CREW: Settings = Settings {
+    own_user: 7,
+    own_group: 3,
+    restrict: false,
+    acknowledgement: true,
+    limits: Counters {
+        cfp1: 3,
+        cfp3: 3,
+        cfp4: 3,
+    },
+};
 
 // The call that user 7 makes to user 9.
-fn own_call() -> Parties
-    ensures { λ r. ⌜ r ≡ ours ⌝ }
-{
-    Parties {
-        identifier: 0x1234,
-        caller: 7,
-        callee: 9,
-    }
-}
+const OURS: Parties = Parties {
+    identifier: 0x1234,
+    caller: 7,
+    callee: 9,
+};
 
 // A call that user 9 makes to user 7.
-fn their_call(identifier: u16) -> Parties
-    ensures { λ r. ⌜ r ≡ theirs identifier ⌝ }
-{
-    Parties {
-        identifier: identifier,
-        caller: 9,
-        callee: 7,
-    }
-}
+const THEIRS: Parties = Parties {
+    identifier: 0x4321,
+    caller: 9,
+    callee: 7,
+};
 
-// User 7 starts the private call.
-fn private_start() -> Event
-    ensures { λ r. ⌜ r ≡ acts (PrivateAction.Start ourStart) ⌝ }
-{
-    Event::Action(Action::Private(PrivateAction::Start(PrivateStart {
-        identifier: 0x1234,
-        callee: 9,
-        commencement: 0,
-        pck_id: 0,
-    })))
-}
+// Another one.
+const STRANGE: Parties = Parties {
+    identifier: 0x0999,
+    caller: 9,
+    callee: 7,
+};
+
+// What user 7 names who starts the private call.
+const PRIVATE_START: PrivateStart = PrivateStart {
+    identifier: 0x1234,
+    callee: 9,
+    commencement: 0,
+    pck_id: 0,
+};
 
 // What the request of user 9 says besides: manual commencement, no PCK-ID.
-fn their_setup() -> Setup
-    ensures { λ r. ⌜ r ≡ theirSetup ⌝ }
-{
-    Setup {
-        commencement: 1,
-        call_type: 4,
-        pck_id: 0,
-    }
-}
+const THEIR_SETUP: Setup = Setup {
+    commencement: 1,
+    call_type: 4,
+    pck_id: 0,
+};
 
-// User 7 starts the group call.
-fn group_start() -> Event
-    ensures { λ r. ⌜ r ≡ actsInGroup (GroupAction.Start groupStart) ⌝ }
-{
-    Event::Action(Action::Group(GroupAction::Start(GroupStart {
-        identifier: 16,
-        call_type: 1,
-        refresh: 30,
-        confirm: 1,
-        now: 1000,
-    })))
-}
+// What user 7 names who starts the group call: basic, at the time 1000, with confirm.
+const GROUP_START: GroupStart = GroupStart {
+    identifier: 16,
+    call_type: 1,
+    refresh: 30,
+    confirm: 1,
+    now: 1000,
+};
 
-// User 7 raises the group call.
-fn group_raise() -> Event
-    ensures { λ r. ⌜ r ≡ actsInGroup (GroupAction.Raise groupRaise) ⌝ }
-{
-    Event::Action(Action::Group(GroupAction::Raise(GroupRaise {
-        call_type: 2,
-        now: 1200,
-    })))
-}
+// What user 7 raises it to: emergency, at the time 1200.
+const GROUP_RAISE: GroupRaise = GroupRaise {
+    call_type: 2,
+    now: 1200,
+};
+
+// The accept of user 9.
+const ACCEPTED: Acceptance = Acceptance {
+    identifier: 16,
+    sender: 9,
+    call_type: 2,
+    group: 3,
+};
 
 // A call of user 9, unchanged since its start, is announced with confirm.
 fn announcement(identifier: u16, group: u32, call_type: u8, start: u32) -> Event
@@ -132,35 +114,23 @@ fn announcement(identifier: u16, group: u32, call_type: u8, start: u32) -> Event
     ))
 }
 
-// User 9 accepts the group call.
-fn group_accept() -> Event
-    ensures { λ r. ⌜ r ≡ Event.Message (GroupAccept accepted) ⌝ }
-{
-    Event::Message(Message::GroupAccept(Acceptance {
-        identifier: 16,
-        sender: 9,
-        call_type: 2,
-        group: 3,
-    }))
-}
-
 // What a byte stands for to the private machine.
 fn private_event(byte: u8) -> Event
     ensures { λ r. ⌜ r ≡ privateEvent byte ⌝ }
 {
     match byte {
-        0 => private_start(),
-        1 => Event::Message(Message::Ringing(own_call())),
-        2 => Event::Message(Message::Accept(own_call())),
+        0 => Event::Action(Action::Private(PrivateAction::Start(PRIVATE_START))),
+        1 => Event::Message(Message::Ringing(OURS)),
+        2 => Event::Message(Message::Accept(OURS)),
         3 => Event::Action(Action::Private(PrivateAction::End)),
-        4 => Event::Message(Message::ReleaseAck(own_call())),
+        4 => Event::Message(Message::ReleaseAck(OURS)),
         5 => Event::Expiry(Timer::Private(PrivateTimer::Tfp7)),
-        6 => Event::Message(Message::SetupRequest(their_call(0x4321), their_setup())),
+        6 => Event::Message(Message::SetupRequest(THEIRS, THEIR_SETUP)),
         7 => Event::Action(Action::Private(PrivateAction::Accept)),
-        8 => Event::Message(Message::AcceptAck(their_call(0x4321))),
-        9 => Event::Message(Message::Release(their_call(0x4321))),
+        8 => Event::Message(Message::AcceptAck(THEIRS)),
+        9 => Event::Message(Message::Release(THEIRS)),
         10 => Event::Expiry(Timer::Private(PrivateTimer::Tfp1)),
-        _ => Event::Message(Message::Reject(their_call(0x0999), 2)),
+        _ => Event::Message(Message::Reject(STRANGE, 2)),
     }
 }
 
@@ -169,16 +139,16 @@ fn group_event(byte: u8) -> Event
     ensures { λ r. ⌜ r ≡ groupEvent byte ⌝ }
 {
     match byte {
-        0 => group_start(),
+        0 => Event::Action(Action::Group(GroupAction::Start(GROUP_START))),
         1 => Event::Expiry(Timer::Group(GroupTimer::Tfg2)),
         2 => announcement(17, 3, 2, 1100),
         3 => announcement(18, 3, 1, 2000),
-        4 => group_raise(),
+        4 => Event::Action(Action::Group(GroupAction::Raise(GROUP_RAISE))),
         5 => Event::Action(Action::Group(GroupAction::Leave)),
         6 => Event::Action(Action::Group(GroupAction::Accept)),
         7 => Event::Action(Action::Group(GroupAction::Reject)),
         8 => Event::Expiry(Timer::Group(GroupTimer::Tfg4)),
-        9 => group_accept(),
+        9 => Event::Message(Message::GroupAccept(ACCEPTED)),
         _ => announcement(17, 4, 2, 1100),
     }
 }

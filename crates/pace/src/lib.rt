@@ -6,7 +6,7 @@ ghost use mathlib.Core.Path.{_≡_};
 ghost use Prim.Native.Nat.{_≤_};
 ghost use Rattle.pace.specs.Script.{rowMet};
 ghost use Rattle.pace.specs.Played.{privatePlay, groupPlay, rowsMet, bufferAfter};
-use crate::happenings::crew;
+use crate::happenings::CREW;
 use crate::happenings::group_input;
 use crate::happenings::private_input;
 
@@ -31,7 +31,7 @@ pub extern "C" fn pace_private_steps(script: &[u8], out: &mut [u8]) -> usize
     let mut met = 0;
     let mut at = 0;
     while at < script.len() {
-        let stepped = private_call::step(crew(), stored, private_input(script[at]), out);
+        let stepped = private_call::step(CREW, stored, private_input(script[at]), out);
         met += row_met(stepped.row);
         at += 1;
         stored = stepped.next;
@@ -49,7 +49,7 @@ pub extern "C" fn pace_group_steps(script: &[u8], out: &mut [u8]) -> usize
     let mut met = 0;
     let mut at = 0;
     while at < script.len() {
-        let stepped = group_call::step(crew(), stored, group_input(script[at]), out);
+        let stepped = group_call::step(CREW, stored, group_input(script[at]), out);
         met += row_met(stepped.row);
         at += 1;
         stored = stepped.next;

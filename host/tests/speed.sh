@@ -78,6 +78,12 @@ table "each implementation has its lines and bytes a second" \
 table "cost stands against size, from one line to 65,536 bytes" "|  | Rattle | ${others//|/ | } |" \
     '1 line' '64 bytes' '256 bytes' '1024 bytes' '4096 bytes' '16384 bytes' '65536 bytes'
 
+# The lines of a page's tables, with a # in the place of each figure.
+shape() { sed -nE 's/ [0-9]+(\.[0-9]+)? \|/ # |/g; s/ [0-9]+(\.[0-9]+)? \|/ # |/g; /^\|/p' "$1"; }
+shape docs/SPEED.md >"$room/page"
+verdict "docs/SPEED.md has every table that the program prints, with all of its rows" \
+    "$(shape "$room/wrote" | grep -vxF -f "$room/page" | head -n 1)"
+
 # ---- the C
 
 wrong=''

@@ -13,6 +13,17 @@ pub fn words() -> Vec<String> {
         .collect()
 }
 
+/// Gives the words of one line.
+pub fn words_of(line: &str) -> Vec<String> {
+    line.split_whitespace().map(str::to_string).collect()
+}
+
+/// Reads a number that stands behind an option of this name.
+pub fn number(name: &str, word: &str) -> Result<u64, String> {
+    word.parse()
+        .map_err(|_| format!("{name} needs a number from 0 to {}, not {word:?}", u64::MAX))
+}
+
 /// Ends the program of this name: with status 0 where all was good, with 1 where it was
 /// not, and with 2 and one line on standard error where it could not be done.
 pub fn end(name: &str, done: Result<bool, String>) -> ExitCode {

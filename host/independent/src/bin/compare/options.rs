@@ -2,6 +2,7 @@
 
 use crate::case::Spoil;
 use crate::parts::{COUNT, PARTS};
+use independent::command::number;
 
 /// What is to be done.
 #[derive(Debug, PartialEq, Eq)]
@@ -90,12 +91,6 @@ fn options(words: &[&str]) -> Result<Options, String> {
     Ok(options)
 }
 
-/// Reads a number that stands behind a word.
-fn number(name: &str, word: &str) -> Result<u64, String> {
-    word.parse()
-        .map_err(|_| format!("{name} needs a number from 0 to {}, not {word:?}", u64::MAX))
-}
-
 /// Reads the name of a slip.
 fn slip(word: &str) -> Result<Spoil, String> {
     let found = Spoil::ALL.iter().find(|(name, _)| *name == word);
@@ -108,11 +103,11 @@ fn slip(word: &str) -> Result<Spoil, String> {
 #[cfg(test)]
 mod tests {
     use super::*;
+    use independent::command::words_of;
 
     /// Reads words that are given in one line.
     fn parsed(line: &str) -> Result<Task, String> {
-        let words: Vec<String> = line.split_whitespace().map(str::to_string).collect();
-        parse(&words)
+        parse(&words_of(line))
     }
 
     /// Every option is taken, and what is not given has the default that the help names.

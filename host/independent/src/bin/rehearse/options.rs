@@ -2,6 +2,7 @@
 
 use crate::program::Program;
 use crate::slips::{Slip, SLIPS};
+use independent::command::number;
 
 /// What is to be done.
 #[derive(Debug, PartialEq, Eq)]
@@ -107,12 +108,6 @@ fn options(words: &[&str], command: Option<&[&str]>) -> Result<Task, String> {
     }
 }
 
-/// Reads a number that stands behind a word.
-fn number(name: &str, word: &str) -> Result<u64, String> {
-    word.parse()
-        .map_err(|_| format!("{name} needs a number from 0 to {}, not {word:?}", u64::MAX))
-}
-
 /// Reads the name of a slip, and gives its place.
 fn slip(word: &str) -> Result<usize, String> {
     let named = |slip: &Slip| slip.name == word;
@@ -124,11 +119,11 @@ fn slip(word: &str) -> Result<usize, String> {
 #[cfg(test)]
 mod tests {
     use super::*;
+    use independent::command::words_of;
 
     /// Reads words that are given in one line.
     fn parsed(line: &str) -> Result<Task, String> {
-        let words: Vec<String> = line.split_whitespace().map(str::to_string).collect();
-        parse(&words)
+        parse(&words_of(line))
     }
 
     /// Every option is taken, and what is not given has the default that the help names.

@@ -1,5 +1,6 @@
 //! What the program is asked to do, from the words it is called with.
 
+use independent::command::number;
 use std::time::Duration;
 
 /// What is to be done.
@@ -69,20 +70,14 @@ fn behind<'a>(name: &str, word: Option<&'a String>) -> Result<&'a str, String> {
         .ok_or_else(|| format!("{name} needs a word behind it"))
 }
 
-/// Reads a number that stands behind a word.
-fn number(name: &str, word: &str) -> Result<u64, String> {
-    word.parse()
-        .map_err(|_| format!("{name} needs a number from 0 to {}, not {word:?}", u64::MAX))
-}
-
 #[cfg(test)]
 mod tests {
     use super::*;
+    use independent::command::words_of;
 
     /// Reads words that are given in one line.
     fn parsed(line: &str) -> Result<Task, String> {
-        let words: Vec<String> = line.split_whitespace().map(str::to_string).collect();
-        parse(&words)
+        parse(&words_of(line))
     }
 
     /// Every option is taken, and what is not given has its default.

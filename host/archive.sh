@@ -74,7 +74,7 @@ END
 
 # Has rt prove and make the archive, with a kit of its own where a word names one.
 make() {
-    env ${1:+"RATTLE_HOME=$1"} "$rt" staticlib "$name" </dev/null >/dev/null 2>&1 && [ -f "$made" ]
+    env ${1:+"RATTLE_HOME=$1"} bash host/alone.sh "$rt" staticlib "$name" </dev/null >/dev/null 2>&1 && [ -f "$made" ]
 }
 
 now=$(state)

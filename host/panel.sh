@@ -22,7 +22,7 @@ x86_64*linux*) ;;
 *) fail "the archive is for 64-bit x86 Linux, and ${CC:-cc} compiles for $machine" ;;
 esac
 [ -e target/staticlib/libpanel.a ] || echo "panel: proving and building it first: a minute or two, once" >&2
-rt staticlib panel </dev/null >/dev/null 2>&1 || fail "not proved or not built: rt staticlib panel says why"
+bash host/alone.sh rt staticlib panel </dev/null >/dev/null 2>&1 || fail "not proved or not built: rt staticlib panel says why"
 
 { mkdir -p $into && cp host/include/panel.h target/staticlib/libpanel.a $into; } || fail "$into cannot be written"
 # shellcheck disable=SC2086

@@ -32,7 +32,7 @@ if [ ! -x "$program" ]; then
     rm -f "$root/target/stamp/$name"
     echo "$name: proving and building it first: a few minutes, once" >&2
 fi
-(cd "$root" && "$rt" check "$name") </dev/null >/dev/null 2>&1 || fail "not proved or not built: rt check $name says why"
+bash "$root/host/alone.sh" "$rt" check "$name" </dev/null >/dev/null 2>&1 || fail "not proved or not built: rt check $name says why"
 
 command=("$loader" --library-path "$tools/lib" "$program")
 [ ! -x "$emulator" ] || command=("$emulator" "${command[@]}")

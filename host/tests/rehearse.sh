@@ -39,24 +39,24 @@ unit_tests "all other unit tests of the independent implementation than those of
 
 # ---- no difference
 
-# One case: a run from the seed of the second word finds no difference in 30,000 steps, and meets all it should; what it met is shown.
+# One case: a run from the seed of the second word finds no difference in 12,000 steps, and meets all it should; what it met is shown.
 agrees() {
-    run --seed "$2" --steps 30000 -- "${drill[@]}"
+    run --seed "$2" --steps 12000 -- "${drill[@]}"
     local wrong first last
     wrong=$(wrongs 0)
     first=$(head -n 1 "$room/wrote")
     last=$(tail -n 1 "$room/wrote")
     [ "$first" = "seed $2" ] || wrong="$wrong first: $first"
-    [[ $last =~ ^no\ difference:\ 3[0-9]{4}\ steps$ ]] || wrong="$wrong last: $last"
+    [[ $last =~ ^no\ difference:\ 12[0-9]{3}\ steps$ ]] || wrong="$wrong last: $last"
     sed -n '/^steps/,/^  Group call: the cabs are in different/s/^/  /p' "$room/wrote"
     # A difference is told whole, but in one line as every case is.
     verdict "$1" "$wrong$(sed -n '/^DIFFERENCE/,$p; /^FAILED/p' "$room/wrote" | sed '1s/^/ /' | paste -s -d ';')"
 }
-agrees "drill and the independent implementation print the same for 30,000 steps" 1
+agrees "drill and the independent implementation print the same for 12,000 steps" 1
 cp "$room/wrote" "$room/first"
 agrees "they print the same from another seed" 20261
 
-run --seed 1 --steps 30000 -- "$rehearse" --play -
+run --seed 1 --steps 12000 -- "$rehearse" --play -
 wrong=$(wrongs 0)
 cmp -s "$room/first" "$room/wrote" || wrong="$wrong another run: $(cmp "$room/first" "$room/wrote" 2>&1 | sed "s|$room/||g")"
 "$rehearse" --seed 1 --script 1 >"$room/one" && "$rehearse" --seed 1 --script 1 >"$room/again"

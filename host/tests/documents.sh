@@ -24,7 +24,7 @@ public_functions() {
 edits() { find crates -path '*/must-fail/*.edit' | sed 's|^crates/\([^/]*\)/must-fail/\(.*\)\.edit$|\1/\2|' | sort; }
 
 # Where the theorems of one answer stand.
-one_answer=crates/demands/proofs/OneAnswer.antt
+one_answer=crates/promises/proofs/OneAnswer.antt
 
 # What a document writes between backquotes.
 quoted() { grep -o '`[^`]*`' "$1" | tr -d '`' | sort -u; }

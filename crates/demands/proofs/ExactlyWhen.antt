@@ -29,7 +29,7 @@ use Rattle.stepping.specs.Numbers.{heardGood, argumentsGood}
 use Rattle.private_record.specs.declared.states.PrivateRecord.{PrivateRecord}
 use Rattle.private_rows.specs.Causes.{sameIdentifier}
 use Rattle.private_rows.specs.Rows.{rowNumber, rowOf}
-use Rattle.private_rows.specs.declared.rows.Row.the-variants.{R1}
+use Rattle.private_record.specs.declared.rows.Row.the-variants.{R1}
 use Rattle.private_rows.proofs.Meets.{same-row}
 use Rattle.private_call.specs.Step.{identifierTaken}
 use Rattle.private_call.proofs.Steps.{number-told}

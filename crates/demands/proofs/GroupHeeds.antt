@@ -21,8 +21,8 @@ use Rattle.group_record.specs.declared.states.GroupRecord.{GroupRecord}
 use Rattle.group_rows.specs.Causes.{causeOf, factsOf}
 use Rattle.group_rows.specs.Rows.{rowNumber, rowIn, rowOf}
 use Rattle.group_rows.specs.Found.{atOf, foundAt}
-use Rattle.group_rows.specs.declared.rows.Row.{Row}
-use Rattle.group_rows.specs.declared.rows.Row.the-variants.{G1, G7, G8}
+use Rattle.group_record.specs.declared.rows.Row.{Row}
+use Rattle.group_record.specs.declared.rows.Row.the-variants.{G1, G7, G8}
 use Rattle.group_rows.proofs.Meets.{found-is-met}
 use Rattle.group_carried.specs.Effects.{effectOf}
 use Rattle.group_carried.specs.Carried.{changes, carryOut}

@@ -15,7 +15,7 @@ use Rattle.group_record.specs.States.{has}
 use Rattle.group_record.specs.declared.states.Timers.{Timers}
 use Rattle.group_record.specs.declared.states.GroupRecord.{GroupRecord}
 use Rattle.group_rows.specs.Rows.{rowNumber, rowOf}
-use Rattle.group_rows.specs.declared.rows.Row.the-variants.{G9}
+use Rattle.group_record.specs.declared.rows.Row.the-variants.{G9}
 use Rattle.group_rows.proofs.Meets.{same-row}
 use Rattle.group_carried.specs.Carried.{isLater, runningAfter}
 use Rattle.group_call.specs.Step.{changeTooEarly, doneOf, stepNumber}

@@ -1,7 +1,4 @@
 pub mod Demands
-pub mod Promised
-pub mod OneAnswer
-pub mod Entries
 pub mod ExactlyWhen
 pub mod Choosing
 pub mod NothingChanges

@@ -7,7 +7,6 @@ pub mod Builds
 pub mod SameCall
 pub mod TwoCabs
 pub mod MarkedCases
-pub mod OneAnswer
 pub mod RowPlays
 pub mod GroupPlays
 pub mod Strays

@@ -25,7 +25,7 @@ use Rattle.private_record.specs.Formed as Formed
 use Rattle.private_record.specs.declared.states.Timers as PrivateTimers
 use Rattle.private_record.specs.declared.states.PrivateRecord.{PrivateRecord}
 use Rattle.private_rows.specs.Rows.{rowOf}
-use Rattle.private_rows.specs.declared.rows.Row.the-variants.{R1}
+use Rattle.private_record.specs.declared.rows.Row.the-variants.{R1}
 use Rattle.private_carried.specs.Carried as Carried
 use Rattle.private_call.specs.Step.{doneOf, stepLine, movedOf, stepOf, stepBuffer}
 use Rattle.private_call.specs.declared.Stepped.{Stepped}
@@ -34,7 +34,7 @@ use Rattle.group_record.specs.Formed as GroupFormed
 use Rattle.group_record.specs.declared.states.Timers as GroupTimers
 use Rattle.group_record.specs.declared.states.GroupRecord.{GroupRecord}
 use Rattle.group_rows.specs.Rows as GroupRows
-use Rattle.group_rows.specs.declared.rows.Row.the-variants.{G9}
+use Rattle.group_record.specs.declared.rows.Row.the-variants.{G9}
 use Rattle.group_carried.specs.Carried as GroupCarried
 use Rattle.group_call.specs.Step as GroupStep
 use Rattle.group_call.specs.declared.Stepped as GroupStepped

@@ -15,7 +15,7 @@ use Rattle.group_record.specs.declared.states.GroupRecord.{GroupRecord}
 use Rattle.group_rows.specs.Causes.{causeOf, factsOf}
 use Rattle.group_rows.specs.Rows.{rowOf}
 use Rattle.group_rows.specs.declared.causes.Cause.{Cause}
-use Rattle.group_rows.specs.declared.rows.Row.the-variants.{Discard}
+use Rattle.group_record.specs.declared.rows.Row.the-variants.{Discard}
 use Rattle.group_carried.specs.Carried.{ranOut, changes, stoppedOf, runningAfter, stoppedBy, runningBy, carryOut}
 use Rattle.group_carried.specs.Effects.{effectOf}
 use Rattle.group_carried.specs.declared.Carried.{Carried}

@@ -25,7 +25,7 @@ use Rattle.group_record.specs.declared.states.GroupRecord.{GroupRecord}
 use Rattle.group_rows.specs.Causes.{causeOf, factsOf}
 use Rattle.group_rows.specs.Rows.{rowOf}
 use Rattle.group_rows.specs.declared.causes.Cause.{Cause}
-use Rattle.group_rows.specs.declared.rows.Row.{Row}
+use Rattle.group_record.specs.declared.rows.Row.{Row}
 use Rattle.group_carried.specs.Effects.{effectOf}
 use Rattle.group_carried.specs.Carried.{isLater, ranOut, runningBy, changedBy, heldOf, mediaHeld, sentOf, carryOut}
 use Rattle.group_carried.specs.declared.effects.Hold.{Hold}

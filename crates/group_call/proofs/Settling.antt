@@ -10,7 +10,7 @@ use Rattle.group_record.specs.declared.states.Timers.{Timers}
 use Rattle.group_rows.specs.Rows.{rowNumber, rowIn}
 use Rattle.group_rows.specs.declared.causes.Cause.{Cause}
 use Rattle.group_rows.specs.declared.causes.Facts.{Facts}
-use Rattle.group_rows.specs.declared.rows.Row.{Row}
+use Rattle.group_record.specs.declared.rows.Row.{Row}
 use Rattle.group_rows.proofs.Meets.{each-row}
 use Rattle.group_carried.specs.Effects.{effectOf}
 use Rattle.group_carried.specs.Carried.{stoppedOf, runningAfter, runningBy}

@@ -23,8 +23,8 @@ use Rattle.group_rows.specs.Causes.{groupTimerCause, causeOf, factsOf}
 use Rattle.group_rows.specs.Rows.{rowNumber, runs, rowIn, rowOf}
 use Rattle.group_rows.specs.declared.causes.Cause.{Cause}
 use Rattle.group_rows.specs.declared.causes.Facts.{Facts}
-use Rattle.group_rows.specs.declared.rows.Row.{Row}
-use Rattle.group_rows.specs.declared.rows.Row.the-variants.{Discard}
+use Rattle.group_record.specs.declared.rows.Row.{Row}
+use Rattle.group_record.specs.declared.rows.Row.the-variants.{Discard}
 use Rattle.group_rows.proofs.Meets.{found-is-met}
 use Rattle.group_carried.specs.Carried.{isLater, carryOut}
 use Rattle.group_call.specs.Hearing.{inputOf, expiry}

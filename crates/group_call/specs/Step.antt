@@ -15,7 +15,7 @@ use Rattle.group_record.specs.States.{noTimer}
 use Rattle.group_record.specs.Formed.{wellFormed}
 use Rattle.group_record.specs.declared.states.GroupRecord.{GroupRecord}
 use Rattle.group_rows.specs.Rows.{rowNumber, rowOf}
-use Rattle.group_rows.specs.declared.rows.Row.{Row}
+use Rattle.group_record.specs.declared.rows.Row.{Row}
 use Rattle.group_carried.specs.Carried.{isLater, carryOut}
 use Rattle.group_carried.specs.declared.Carried.{Carried}
 use Rattle.group_call.specs.declared.Stepped.{Stepped}

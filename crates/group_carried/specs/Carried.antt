@@ -20,7 +20,7 @@ use Rattle.group_record.specs.States.{stateNumber, has, setOf, noTimer, tfg2, t
 use Rattle.group_record.specs.declared.states.State.{State}
 use Rattle.group_record.specs.declared.states.Timers.{Timers}
 use Rattle.group_record.specs.declared.states.GroupRecord.{GroupRecord}
-use Rattle.group_rows.specs.declared.rows.Row.{Row}
+use Rattle.group_record.specs.declared.rows.Row.{Row}
 use Rattle.group_carried.specs.Effects.{effectOf}
 use Rattle.group_carried.specs.declared.effects.Hold.{Hold}
 use Rattle.group_carried.specs.declared.effects.Say.{Say}

@@ -4,8 +4,8 @@ use mathlib.Core.Bool.{Bool, cond}
 use Rattle.group_record.specs.States.{noTimer, tfg2, tfg4, tfg2And6}
 use Rattle.group_record.specs.declared.states.State.{State}
 use Rattle.group_record.specs.declared.states.Timers.{Timers}
-use Rattle.group_rows.specs.declared.rows.Row.{Row}
-use Rattle.group_rows.specs.declared.rows.Row.the-variants.{Discard, G1, G2, G3, G4, G5, G6, G7, G8, G9, G10, G11}
+use Rattle.group_record.specs.declared.rows.Row.{Row}
+use Rattle.group_record.specs.declared.rows.Row.the-variants.{Discard, G1, G2, G3, G4, G5, G6, G7, G8, G9, G10, G11}
 use Rattle.group_carried.specs.declared.effects.Hold.{Hold}
 use Rattle.group_carried.specs.declared.effects.Say.{Say}
 use Rattle.group_carried.specs.declared.effects.Effect.{Effect}

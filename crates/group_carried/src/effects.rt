@@ -2,9 +2,9 @@
 ghost use mathlib.Core.Path.{_≡_};
 ghost use Rattle.group_carried.specs.Effects.{enters as entersOf, stays as staysOf, starts as startsOf};
 ghost use Rattle.group_carried.specs.Effects.{restarts as restartsOf, waits, confirms, effectOf};
+use group_record::rows::Row;
 use group_record::states::State;
 use group_record::states::Timers;
-use group_rows::rows::Row;
 
 // Which call the record holds afterwards.
 pub enum Hold {

@@ -9,9 +9,9 @@ use call::Input;
 use call::Send;
 use call::Settings;
 use call::announced_of;
+use group_record::rows::Row;
 use group_record::states::GroupRecord;
 use group_record::states::Timers;
-use group_rows::rows::Row;
 
 // What carrying out a row gives: the next record, the timers to stop, then those to start, and what is sent.
 pub struct Carried {

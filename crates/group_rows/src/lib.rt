@@ -1,16 +1,16 @@
 // The row that an event meets from a group record.
 mod causes;
-pub mod rows;
+mod rows;
 
 ghost use mathlib.Core.Path.{_≡_};
 ghost use Rattle.group_rows.specs.Rows.{rowOf};
 use crate::causes::cause_of;
 use crate::causes::facts_of;
-use crate::rows::Row;
 use crate::rows::row_in;
 use call::Event;
 use call::Settings;
 use call::announced_of;
+use group_record::rows::Row;
 use group_record::states::GroupRecord;
 
 // The row that an event meets from a record.

@@ -1,26 +1,11 @@
-// The rows, and which of them is met.
+// Which row is met.
 ghost use mathlib.Core.Path.{_≡_};
 ghost use Rattle.group_rows.specs.Found.{atOf, met as metOf, announcedRow, foundAt};
 ghost use Rattle.group_rows.specs.Rows.{rowIn};
 use crate::causes::Cause;
 use crate::causes::Facts;
+use group_record::rows::Row;
 use group_record::states::State;
-
-// The rows, and Discard where none is met.
-pub enum Row {
-    Discard,
-    G1,
-    G2,
-    G3,
-    G4,
-    G5,
-    G6,
-    G7,
-    G8,
-    G9,
-    G10,
-    G11,
-}
 
 // Which state it is.
 struct At {

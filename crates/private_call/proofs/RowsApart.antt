@@ -10,4 +10,4 @@ use Rattle.private_rows.proofs.Everywhere.{anywhere}
 
 -- everywhere
 pub rows-apart : (f : Phase) (c : Cause) (x : Facts) → oneMet (rowsAsk f c x) ≡ true
-rows-apart = anywhere (λ f c x. oneMet (rowsAsk f c x)) refl
+rows-apart = anywhere (λ f c x. oneMet (rowsAsk f c x)) (λ x. refl)

@@ -12,7 +12,7 @@ use Rattle.private_record.specs.declared.states.Timers.{Timers}
 use Rattle.private_rows.specs.Rows.{rowNumber, sameCause, rowIn}
 use Rattle.private_rows.specs.declared.causes.Cause.{Cause}
 use Rattle.private_rows.specs.declared.causes.Facts.{Facts}
-use Rattle.private_rows.specs.declared.rows.Row.{Row}
+use Rattle.private_record.specs.declared.rows.Row.{Row}
 use Rattle.private_rows.proofs.Meets.{each-row}
 use Rattle.private_effects.specs.Effects.{effectOf}
 use Rattle.private_effects.specs.declared.Hold.{Hold}
@@ -105,7 +105,7 @@ pub rows-sound : (f : Phase) (c : Cause) (x : Facts) → Sound f c (rowIn f c x)
 unfolding startedOf stoppedOf runningAfter
 rows-sound f c x =
     let row = rowIn f c x in
-    let a = and-split (settles f c row) _ (each-row sound refl f c x) in
+    let a = and-split (settles f c row) _ (each-row sound (λ x. refl) f c x) in
     let b = and-split (holds f c row) _ (a .1) in
     let d = and-split (says f c row) (quiet f c row) (b .1) in
     record { timers = a .0; call = b .0; message = d .0; discard = d .1 }

@@ -23,7 +23,7 @@ use Rattle.private_record.specs.declared.states.State.{State}
 use Rattle.private_record.specs.declared.states.Timers.{Timers}
 use Rattle.private_record.specs.declared.states.PrivateCall.{PrivateCall}
 use Rattle.private_record.specs.declared.states.PrivateRecord.{PrivateRecord}
-use Rattle.private_rows.specs.declared.rows.Row.{Row}
+use Rattle.private_record.specs.declared.rows.Row.{Row}
 use Rattle.private_effects.specs.Effects.{effectOf}
 use Rattle.private_effects.specs.declared.Hold.{Hold}
 use Rattle.private_effects.specs.declared.Reason.{Reason}

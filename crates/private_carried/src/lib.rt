@@ -8,9 +8,9 @@ use call::Send;
 use call::Settings;
 use call::request_of;
 use private_effects::effect_of;
+use private_record::rows::Row;
 use private_record::states::PrivateRecord;
 use private_record::states::Timers;
-use private_rows::rows::Row;
 
 // What carrying out a row gives: the next record, the timers to stop, then those to start, and what is sent.
 pub struct Carried {

@@ -4,8 +4,8 @@ use mathlib.Core.Bool.{true, false}
 use Rattle.private_record.specs.Phases.{noTimer, tfp1, tfp2, tfp3, tfp4, tfp5, tfp7}
 use Rattle.private_record.specs.declared.states.State.{State}
 use Rattle.private_record.specs.declared.states.Timers.{Timers}
-use Rattle.private_rows.specs.declared.rows.Row.{Row}
-use Rattle.private_rows.specs.declared.rows.Row.the-variants.{Discard, R1, R2, R3, R4, R5, R6, R7, R8, R9, R10, R11, R12, R13, R14, R15, R16, R17, R18, R19, R20, R21, R22, R23, R24, R25, R26, R27, R28, R29}
+use Rattle.private_record.specs.declared.rows.Row.{Row}
+use Rattle.private_record.specs.declared.rows.Row.the-variants.{Discard, R1, R2, R3, R4, R5, R6, R7, R8, R9, R10, R11, R12, R13, R14, R15, R16, R17, R18, R19, R20, R21, R22, R23, R24, R25, R26, R27, R28, R29}
 use Rattle.private_effects.specs.declared.Hold.{Hold}
 use Rattle.private_effects.specs.declared.Reason.{Reason}
 use Rattle.private_effects.specs.declared.Say.{Say}

@@ -3,9 +3,9 @@ ghost use mathlib.Core.Path.{_≡_};
 ghost use Rattle.private_effects.specs.Effects.{enters as entersOf, takes as takesOf, ends as endsOf};
 ghost use Rattle.private_effects.specs.Effects.{stays as staysOf, repeats as repeatsOf, turns as turnsOf};
 ghost use Rattle.private_effects.specs.Effects.{effectOf};
+use private_record::rows::Row;
 use private_record::states::State;
 use private_record::states::Timers;
-use private_rows::rows::Row;
 
 // Which call the record holds afterwards.
 pub enum Hold {

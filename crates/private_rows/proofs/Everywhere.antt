@@ -1,5 +1,5 @@
 -- A test that is computed for every phase, cause and set of facts, and what it shows of each. Assumes nothing.
-use mathlib.Core.Path.{_≡_}
+use mathlib.Core.Path.{_≡_, refl, subst}
 use mathlib.Core.List.{List, [], _∷_}
 use mathlib.Core.Bool.{Bool, true}
 use Rattle.call.specs.declared.PrivateTimer.{PrivateTimer}
@@ -89,36 +89,80 @@ at-cause q t Cause.ReleaseAckHeard = nth (causeTests q) 15 t
 at-cause q t Cause.AcceptAckHeard = nth (causeTests q) 16 t
 at-cause q t Cause.Other = nth (causeTests q) 17 t
 
+-- ---- the facts
+
+-- one of the facts: its Bool, the facts with another Bool in its place, and that its own Bool there changes nothing
+record Fact : Type 0 where
+  bool : Facts → Bool
+  put : Facts → Bool → Facts
+  kept : (x : Facts) → put x (bool x) ≡ x
+
 -- facts by their Bools
 abbrev facts : Bool → Bool → Bool → Bool → Bool → Bool → Facts
 facts same media manual trusted own under = record { same = same; media = media; manual = manual; trusted = trusted; «own_caller» = own; under = under }
 
--- of every set of facts
-abbrev everyFacts : (Facts → Bool) → Bool
-everyFacts q =
-    bothBools (λ a. bothBools (λ b. bothBools (λ c. bothBools (λ d. bothBools (λ e. bothBools (λ g. q (facts a b c d e g)))))))
+-- whether the message is the same
+abbrev sameFact : Fact
+sameFact = record { bool = λ x. x .same; put = λ x b. facts b (x .media) (x .manual) (x .trusted) (x .«own_caller») (x .under); kept = λ x. refl }
+
+-- whether media can be set up
+abbrev mediaFact : Fact
+mediaFact = record { bool = λ x. x .media; put = λ x b. facts (x .same) b (x .manual) (x .trusted) (x .«own_caller») (x .under); kept = λ x. refl }
+
+-- whether the commencement is manual
+abbrev manualFact : Fact
+manualFact = record { bool = λ x. x .manual; put = λ x b. facts (x .same) (x .media) b (x .trusted) (x .«own_caller») (x .under); kept = λ x. refl }
+
+-- whether there is no PCK-ID, or a good signature
+abbrev trustedFact : Fact
+trustedFact = record { bool = λ x. x .trusted; put = λ x b. facts (x .same) (x .media) (x .manual) b (x .«own_caller») (x .under); kept = λ x. refl }
+
+-- whether the caller is own
+abbrev ownFact : Fact
+ownFact = record { bool = λ x. x .«own_caller»; put = λ x b. facts (x .same) (x .media) (x .manual) (x .trusted) b (x .under); kept = λ x. refl }
+
+-- whether the counter is under its limit
+abbrev underFact : Fact
+underFact = record { bool = λ x. x .under; put = λ x b. facts (x .same) (x .media) (x .manual) (x .trusted) (x .«own_caller») b; kept = λ x. refl }
+
+-- the facts that the rows of a cause look at: a test need not be computed for both Bools of any other
+abbrev lookedAt : Cause → List Fact
+lookedAt Cause.UserStarts = []
+lookedAt Cause.UserEnds = []
+lookedAt Cause.UserAccepts = trustedFact ∷ []
+lookedAt Cause.UserRejects = []
+lookedAt Cause.Tfp1Expires = underFact ∷ []
+lookedAt Cause.Tfp2Expires = []
+lookedAt Cause.Tfp3Expires = underFact ∷ []
+lookedAt Cause.Tfp4Expires = underFact ∷ []
+lookedAt Cause.Tfp5Expires = []
+lookedAt Cause.Tfp7Expires = []
+lookedAt Cause.SetupHeard = sameFact ∷ mediaFact ∷ manualFact ∷ trustedFact ∷ []
+lookedAt Cause.RingingHeard = sameFact ∷ []
+lookedAt Cause.AcceptHeard = sameFact ∷ mediaFact ∷ ownFact ∷ []
+lookedAt Cause.RejectHeard = sameFact ∷ []
+lookedAt Cause.ReleaseHeard = sameFact ∷ []
+lookedAt Cause.ReleaseAckHeard = sameFact ∷ []
+lookedAt Cause.AcceptAckHeard = sameFact ∷ []
+lookedAt Cause.Other = []
+
+-- of both Bools of each of these facts, the others being as they are
+abbrev bothOf : List Fact → (Facts → Bool) → Facts → Bool
+bothOf [] q x = q x
+bothOf (k ∷ ks) q x = bothBools (λ b. bothOf ks q (k .put x b))
 
 -- of one
-at-facts : (q : Facts → Bool) → everyFacts q ≡ true → (x : Facts) → q x ≡ true
-at-facts q t x =
-    let a = x .same in
-    let b = x .media in
-    let c = x .manual in
-    let d = x .trusted in
-    let e = x .«own_caller» in
-    at-bool (λ g. q (facts a b c d e g))
-    (at-bool (λ e. bothBools (λ g. q (facts a b c d e g)))
-    (at-bool (λ d. bothBools (λ e. bothBools (λ g. q (facts a b c d e g))))
-    (at-bool (λ c. bothBools (λ d. bothBools (λ e. bothBools (λ g. q (facts a b c d e g)))))
-    (at-bool (λ b. bothBools (λ c. bothBools (λ d. bothBools (λ e. bothBools (λ g. q (facts a b c d e g))))))
-    (at-bool (λ a. bothBools (λ b. bothBools (λ c. bothBools (λ d. bothBools (λ e. bothBools (λ g. q (facts a b c d e g))))))) t a)
-    b) c) d) e) (x .under)
+at-facts : (ks : List Fact) (q : Facts → Bool) → ((x : Facts) → bothOf ks q x ≡ true) → (x : Facts) → q x ≡ true
+at-facts [] q t x = t x
+at-facts (k ∷ ks) q t x =
+    at-facts ks q (λ y. subst (λ z. bothOf ks q z ≡ true) (k .kept y) (at-bool (λ b. bothOf ks q (k .put y b)) (t y) (k .bool y))) x
 
--- a test of everything
-abbrev pub everywhere : (Phase → Cause → Facts → Bool) → Bool
-everywhere q = everyPhase (λ f. each (causeTests (λ c. everyFacts (q f c))))
+-- a test of everything, whatever the facts are that a cause does not look at
+abbrev pub everywhere : (Phase → Cause → Facts → Bool) → Facts → Bool
+everywhere q x = everyPhase (λ f. each (causeTests (λ c. bothOf (lookedAt c) (q f c) x)))
 
 -- and what it shows
-pub anywhere : (q : Phase → Cause → Facts → Bool) → everywhere q ≡ true → (f : Phase) (c : Cause) (x : Facts) → q f c x ≡ true
-anywhere q t f c x =
-    at-facts (q f c) (at-cause (λ c. everyFacts (q f c)) (at-phase (λ f. each (causeTests (λ c. everyFacts (q f c)))) t f) c) x
+pub anywhere : (q : Phase → Cause → Facts → Bool) → ((x : Facts) → everywhere q x ≡ true) → (f : Phase) (c : Cause) (x : Facts) → q f c x ≡ true
+anywhere q t f c =
+    at-facts (lookedAt c) (q f c)
+    (λ x. at-cause (λ c. bothOf (lookedAt c) (q f c) x) (at-phase (λ f. each (causeTests (λ c. bothOf (lookedAt c) (q f c) x))) (t x) f) c)

@@ -13,8 +13,8 @@ use Rattle.private_rows.specs.Rows.{rowNumber, runs, rowIn, rowsAsk}
 use Rattle.private_rows.specs.Found.{atOf, foundAt}
 use Rattle.private_rows.specs.declared.causes.Cause.{Cause}
 use Rattle.private_rows.specs.declared.causes.Facts.{Facts}
-use Rattle.private_rows.specs.declared.rows.Row.{Row}
-use Rattle.private_rows.specs.declared.rows.Row.the-variants.{Discard, R1, R2, R3, R4, R5, R6, R7, R8, R9, R10, R11, R12, R13, R14, R15, R16, R17, R18, R19, R20, R21, R22, R23, R24, R25, R26, R27, R28, R29}
+use Rattle.private_record.specs.declared.rows.Row.{Row}
+use Rattle.private_record.specs.declared.rows.Row.the-variants.{Discard, R1, R2, R3, R4, R5, R6, R7, R8, R9, R10, R11, R12, R13, R14, R15, R16, R17, R18, R19, R20, R21, R22, R23, R24, R25, R26, R27, R28, R29}
 use Rattle.private_rows.proofs.Everywhere.{everyPhase, at-phase, everyTimer, at-timer, everywhere, anywhere}
 
 -- the rows in the order of their numbers
@@ -65,10 +65,10 @@ finds f c x = eqb (rowNumber (foundAt (atOf f) c x)) (rowNumber (firstMet Discar
 -- everywhere
 pub found-is-met : (f : Phase) (c : Cause) (x : Facts) → foundAt (atOf f) c x ≡ rowIn f c x
 unfolding rowIn
-found-is-met f c x = same-row (foundAt (atOf f) c x) (firstMet Discard (rowsAsk f c x)) (anywhere finds refl f c x)
+found-is-met f c x = same-row (foundAt (atOf f) c x) (firstMet Discard (rowsAsk f c x)) (anywhere finds (λ x. refl) f c x)
 
 -- what is computed of the row found, everywhere, holds of the row met, anywhere
-pub each-row : (q : Phase → Cause → Row → Bool) → everywhere (λ f c x. q f c (foundAt (atOf f) c x)) ≡ true
+pub each-row : (q : Phase → Cause → Row → Bool) → ((x : Facts) → everywhere (λ f c x. q f c (foundAt (atOf f) c x)) x ≡ true)
     → (f : Phase) (c : Cause) (x : Facts) → q f c (rowIn f c x) ≡ true
 each-row q t f c x = ap (q f c) (sym (found-is-met f c x)) ∙ anywhere (λ f c x. q f c (foundAt (atOf f) c x)) t f c x
 

@@ -1,17 +1,17 @@
 // The row that an event meets from a private record.
 mod causes;
 mod phases;
-pub mod rows;
+mod rows;
 
 ghost use mathlib.Core.Path.{_≡_};
 ghost use Rattle.private_rows.specs.Rows.{rowOf};
 use crate::causes::cause_of;
 use crate::causes::facts_of;
 use crate::phases::phase_in;
-use crate::rows::Row;
 use crate::rows::row_in;
 use call::Input;
 use call::Settings;
+use private_record::rows::Row;
 use private_record::states::PrivateRecord;
 
 // The row that an event meets from a record.

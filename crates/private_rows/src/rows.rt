@@ -1,45 +1,12 @@
-// The rows, and which of them is met.
+// Which row is met.
 ghost use mathlib.Core.Path.{_≡_};
 ghost use Rattle.private_rows.specs.Found.{orderOf, atOf, met as metOf, either as eitherOf, setupRow};
 ghost use Rattle.private_rows.specs.Found.{acceptRow, foundAt};
 ghost use Rattle.private_rows.specs.Rows.{rowIn};
 use crate::causes::Cause;
 use crate::causes::Facts;
+use private_record::rows::Row;
 use private_record::states::Phase;
-
-// The rows, and Discard where none is met.
-pub enum Row {
-    Discard,
-    R1,
-    R2,
-    R3,
-    R4,
-    R5,
-    R6,
-    R7,
-    R8,
-    R9,
-    R10,
-    R11,
-    R12,
-    R13,
-    R14,
-    R15,
-    R16,
-    R17,
-    R18,
-    R19,
-    R20,
-    R21,
-    R22,
-    R23,
-    R24,
-    R25,
-    R26,
-    R27,
-    R28,
-    R29,
-}
 
 // The answers of a phase to what rows ask of it.
 struct At {

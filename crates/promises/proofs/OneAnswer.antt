@@ -38,7 +38,7 @@ use Rattle.trial.proofs.trial_write_line.Reads as trial-write-line
 use Rattle.trial.proofs.trial_answer_log.Reads as trial-answer-log
 use Rattle.pace.proofs.pace_private_steps.Reads as pace-private-steps
 use Rattle.pace.proofs.pace_group_steps.Reads as pace-group-steps
-use Rattle.demands.specs.OneAnswer.{OneAnswer}
+use Rattle.promises.specs.OneAnswer.{OneAnswer}
 
 -- what equals the same thing is equal
 same : {A : Type 0} {x a b : A} → a ≡ x → b ≡ x → a ≡ b

@@ -1,0 +1,3 @@
+pub mod Promised
+pub mod OneAnswer
+pub mod Entries

@@ -17,7 +17,7 @@ use Rattle.call.specs.Meeting.{firstMet}
 use Rattle.call.specs.declared.Settings.{Settings}
 use Rattle.call.specs.declared.Input.{Input}
 use Rattle.call.specs.declared.Send.{Send}
-use Rattle.stepping.specs.Numbers.{heardGood, argumentsGood}
+use Rattle.step_numbers.specs.Numbers.{heardGood, argumentsGood}
 use Rattle.stepping.specs.Sending.{lineSent}
 use Rattle.private_record.specs.declared.states.Phase.{Phase}
 use Rattle.private_rows.specs.Rows as Rows

@@ -25,7 +25,7 @@ use Rattle.call.specs.Settings.{settingsGood}
 use Rattle.call.specs.Request.{requestOf}
 use Rattle.call.specs.declared.Settings.{Settings}
 use Rattle.call.specs.declared.Input.{Input}
-use Rattle.stepping.specs.Numbers.{heardGood, argumentsGood}
+use Rattle.step_numbers.specs.Numbers.{heardGood, argumentsGood}
 use Rattle.private_record.specs.declared.states.PrivateRecord.{PrivateRecord}
 use Rattle.private_rows.specs.Causes.{sameIdentifier}
 use Rattle.private_rows.specs.Rows.{rowNumber, rowOf}

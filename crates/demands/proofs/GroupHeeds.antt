@@ -13,7 +13,7 @@ use Rattle.call.specs.Announced.{announcedOf}
 use Rattle.call.specs.declared.Settings.{Settings}
 use Rattle.call.specs.declared.GroupAction.{GroupAction}
 use Rattle.call.specs.declared.Input.{Input}
-use Rattle.stepping.specs.Numbers.{argumentsGood}
+use Rattle.step_numbers.specs.Numbers.{argumentsGood}
 use Rattle.stepping.proofs.Stepping.{Taken}
 use Rattle.group_record.specs.Formed.{wellFormed}
 use Rattle.group_record.specs.declared.states.State.{State}
@@ -24,7 +24,7 @@ use Rattle.group_rows.specs.Found.{atOf, foundAt}
 use Rattle.group_record.specs.declared.rows.Row.{Row}
 use Rattle.group_record.specs.declared.rows.Row.the-variants.{G1, G7, G8}
 use Rattle.group_rows.proofs.Meets.{found-is-met}
-use Rattle.group_carried.specs.Effects.{effectOf}
+use Rattle.group_effects.specs.Effects.{effectOf}
 use Rattle.group_carried.specs.Carried.{changes, carryOut}
 use Rattle.group_call.specs.Step.{changeTooEarly}
 use Rattle.demands.specs.Machines.{groupMachine}

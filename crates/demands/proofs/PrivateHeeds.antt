@@ -15,7 +15,7 @@ use Rattle.call.specs.declared.Settings.{Settings}
 use Rattle.call.specs.declared.PrivateTimer.{PrivateTimer}
 use Rattle.call.specs.declared.PrivateAction.{PrivateAction}
 use Rattle.call.specs.declared.Input.{Input}
-use Rattle.stepping.specs.Numbers.{heardGood, argumentsGood}
+use Rattle.step_numbers.specs.Numbers.{heardGood, argumentsGood}
 use Rattle.stepping.proofs.Stepping.{Taken}
 use Rattle.private_record.specs.Phases.{stateOf, phaseOf}
 use Rattle.private_record.specs.Formed.{wellFormed}

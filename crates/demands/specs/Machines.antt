@@ -18,7 +18,7 @@ use Rattle.call.specs.declared.GroupTimer.{GroupTimer}
 use Rattle.call.specs.declared.Event.{Event}
 use Rattle.call.specs.declared.Input.{Input}
 use Rattle.call.specs.declared.Send.{Send}
-use Rattle.stepping.specs.Numbers.{heardGood, argumentsGood}
+use Rattle.step_numbers.specs.Numbers.{heardGood, argumentsGood}
 use Rattle.stepping.specs.Sending.{lineSent}
 use Rattle.private_record.specs.Phases as Phases
 use Rattle.private_record.specs.Formed as Formed

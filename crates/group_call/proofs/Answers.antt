@@ -6,7 +6,7 @@ use mathlib.Core.Bool.{Bool, true, false}
 use lib.ListN.{length}
 use Rattle.call.specs.declared.Settings.{Settings}
 use Rattle.call.specs.declared.Input.{Input}
-use Rattle.stepping.specs.Numbers.{numberBeforeRow}
+use Rattle.step_numbers.specs.Numbers.{numberBeforeRow}
 use Rattle.stepping.specs.Sending.{sendNumber, sendTold, sendBuffer}
 use Rattle.stepping.proofs.Answers as answers
 use Rattle.group_record.specs.Formed.{wellFormed}

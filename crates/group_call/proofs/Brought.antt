@@ -20,7 +20,7 @@ use Rattle.call.specs.declared.GroupAction.{GroupAction}
 use Rattle.call.specs.declared.Action.{Action}
 use Rattle.call.specs.declared.Event.{Event}
 use Rattle.call.specs.declared.Announced.{Announced}
-use Rattle.stepping.specs.Numbers.{heardGood, argumentsGood}
+use Rattle.step_numbers.specs.Numbers.{heardGood, argumentsGood}
 use Rattle.group_record.specs.States.{noTimer, tfg2, tfg4, tfg6}
 use Rattle.group_record.specs.declared.states.Timers.{Timers}
 use Rattle.group_rows.specs.Causes.{announcementCause, causeOf}

@@ -17,7 +17,7 @@ use Rattle.group_rows.specs.Rows.{rowOf}
 use Rattle.group_rows.specs.declared.causes.Cause.{Cause}
 use Rattle.group_record.specs.declared.rows.Row.the-variants.{Discard}
 use Rattle.group_carried.specs.Carried.{ranOut, changes, stoppedOf, runningAfter, stoppedBy, runningBy, carryOut}
-use Rattle.group_carried.specs.Effects.{effectOf}
+use Rattle.group_effects.specs.Effects.{effectOf}
 use Rattle.group_carried.specs.declared.Carried.{Carried}
 use Rattle.group_call.proofs.Brought.{outOf, ran-out-of}
 use Rattle.group_call.proofs.Settling.{less, Sound, rows-sound}

@@ -14,9 +14,9 @@ use Rattle.group_record.specs.States.{has}
 use Rattle.group_record.specs.declared.states.Timers.{Timers}
 use Rattle.group_record.specs.declared.states.GroupRecord.{GroupRecord}
 use Rattle.group_rows.specs.Rows.{rowOf}
-use Rattle.group_carried.specs.Effects.{effectOf}
+use Rattle.group_effects.specs.Effects.{effectOf}
 use Rattle.group_carried.specs.Carried.{ranOut, changes, stoppedOf, carryOut}
-use Rattle.group_carried.specs.declared.effects.Effect.{Effect}
+use Rattle.group_effects.specs.declared.Effect.{Effect}
 use Rattle.group_call.specs.Step.{doneOf, stepNumber, stepOf}
 use Rattle.group_call.specs.declared.Stepped.{Stepped}
 use Rattle.group_call.proofs.Keeping.{has-set}

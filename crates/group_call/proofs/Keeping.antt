@@ -26,11 +26,11 @@ use Rattle.group_rows.specs.Causes.{causeOf, factsOf}
 use Rattle.group_rows.specs.Rows.{rowOf}
 use Rattle.group_rows.specs.declared.causes.Cause.{Cause}
 use Rattle.group_record.specs.declared.rows.Row.{Row}
-use Rattle.group_carried.specs.Effects.{effectOf}
+use Rattle.group_effects.specs.Effects.{effectOf}
 use Rattle.group_carried.specs.Carried.{isLater, ranOut, runningBy, changedBy, heldOf, mediaHeld, sentOf, carryOut}
-use Rattle.group_carried.specs.declared.effects.Hold.{Hold}
-use Rattle.group_carried.specs.declared.effects.Say.{Say}
-use Rattle.group_carried.specs.declared.effects.Effect.{Effect}
+use Rattle.group_effects.specs.declared.Hold.{Hold}
+use Rattle.group_effects.specs.declared.Say.{Say}
+use Rattle.group_effects.specs.declared.Effect.{Effect}
 use Rattle.group_call.proofs.Holding.{ranged, announces, accepts, changes-good}
 use Rattle.group_call.proofs.Brought.{outOf, ran-out-of, bringsCall, bringsChange, New, Brings, brings, own-good}
 use Rattle.group_call.proofs.Settling.{startStop, mayHold, maySay, Sound, rows-sound}

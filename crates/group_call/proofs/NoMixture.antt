@@ -18,7 +18,7 @@ use Rattle.group_record.specs.declared.states.GroupRecord.{GroupRecord}
 use Rattle.group_rows.specs.Rows.{rowNumber, rowOf}
 use Rattle.group_record.specs.declared.rows.Row.{Row}
 use Rattle.group_record.specs.declared.rows.Row.the-variants.{Discard, G1, G2, G3, G4, G5, G6, G7, G8, G9, G10, G11}
-use Rattle.group_carried.specs.Effects.{effectOf}
+use Rattle.group_effects.specs.Effects.{effectOf}
 use Rattle.group_carried.specs.Carried.{isLater, changedBy, heldOf, mediaHeld, carryOut}
 use Rattle.group_call.specs.Step.{doneOf, stepLine, stepNumber, refusedOf, movedOf, stepOf}
 

@@ -12,10 +12,10 @@ use Rattle.group_rows.specs.declared.causes.Cause.{Cause}
 use Rattle.group_rows.specs.declared.causes.Facts.{Facts}
 use Rattle.group_record.specs.declared.rows.Row.{Row}
 use Rattle.group_rows.proofs.Meets.{each-row}
-use Rattle.group_carried.specs.Effects.{effectOf}
+use Rattle.group_effects.specs.Effects.{effectOf}
 use Rattle.group_carried.specs.Carried.{stoppedOf, runningAfter, runningBy}
-use Rattle.group_carried.specs.declared.effects.Hold.{Hold}
-use Rattle.group_carried.specs.declared.effects.Say.{Say}
+use Rattle.group_effects.specs.declared.Hold.{Hold}
+use Rattle.group_effects.specs.declared.Say.{Say}
 use Rattle.group_call.proofs.Brought.{outOf, bringsCall, bringsChange}
 
 -- S1

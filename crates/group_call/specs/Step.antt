@@ -9,7 +9,7 @@ use Rattle.call.specs.Announced.{announcedOf}
 use Rattle.call.specs.declared.Settings.{Settings}
 use Rattle.call.specs.declared.Event.{Event}
 use Rattle.call.specs.declared.Input.{Input}
-use Rattle.stepping.specs.Numbers.{numberOfTests}
+use Rattle.step_numbers.specs.Numbers.{numberOfTests}
 use Rattle.stepping.specs.Sending.{lineSent, numberSending}
 use Rattle.group_record.specs.States.{noTimer}
 use Rattle.group_record.specs.Formed.{wellFormed}

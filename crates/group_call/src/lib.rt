@@ -13,7 +13,7 @@ use group_record::states::GroupRecord;
 use group_record::states::Timers;
 use group_record::well_formed;
 use group_rows::row_of;
-use stepping::number_before_row;
+use step_numbers::number_before_row;
 use stepping::write_sent;
 use writer::Written;
 

@@ -21,10 +21,10 @@ use Rattle.group_record.specs.declared.states.State.{State}
 use Rattle.group_record.specs.declared.states.Timers.{Timers}
 use Rattle.group_record.specs.declared.states.GroupRecord.{GroupRecord}
 use Rattle.group_record.specs.declared.rows.Row.{Row}
-use Rattle.group_carried.specs.Effects.{effectOf}
-use Rattle.group_carried.specs.declared.effects.Hold.{Hold}
-use Rattle.group_carried.specs.declared.effects.Say.{Say}
-use Rattle.group_carried.specs.declared.effects.Effect.{Effect}
+use Rattle.group_effects.specs.Effects.{effectOf}
+use Rattle.group_effects.specs.declared.Hold.{Hold}
+use Rattle.group_effects.specs.declared.Say.{Say}
+use Rattle.group_effects.specs.declared.Effect.{Effect}
 use Rattle.group_carried.specs.declared.Carried.{Carried}
 
 -- ---- the timers

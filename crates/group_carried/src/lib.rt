@@ -1,14 +1,13 @@
 // What carrying out a row of the group call machine gives.
-mod effects;
 mod settled;
 
 ghost use mathlib.Core.Path.{_≡_};
 ghost use Rattle.group_carried.specs.Carried.{carryOut};
-use crate::effects::effect_of;
 use call::Input;
 use call::Send;
 use call::Settings;
 use call::announced_of;
+use group_effects::effect_of;
 use group_record::rows::Row;
 use group_record::states::GroupRecord;
 use group_record::states::Timers;

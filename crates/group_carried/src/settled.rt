@@ -4,8 +4,6 @@ ghost use Rattle.group_record.specs.States.{stateNumber};
 ghost use Rattle.group_carried.specs.Carried.{ranOut, timerOut, groupTimerOut, changes, stoppedOf, runningAfter};
 ghost use Rattle.group_carried.specs.Carried.{isLater, changedBy, laterChange, heldOf, mediaHeld};
 ghost use Rattle.group_carried.specs.Carried.{acceptance, sentOf};
-use crate::effects::Hold;
-use crate::effects::Say;
 use call::Event;
 use call::GroupTimer;
 use call::Send;
@@ -15,6 +13,8 @@ use frame::Acceptance;
 use frame::GroupCall;
 use frame::Media;
 use frame::Message;
+use group_effects::Hold;
+use group_effects::Say;
 use group_record::states::State;
 use group_record::states::Timers;
 

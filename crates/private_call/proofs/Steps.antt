@@ -10,7 +10,7 @@ use Rattle.writer.specs.Lent.{lentAfter}
 use Rattle.call.specs.Settings.{settingsGood}
 use Rattle.call.specs.declared.Settings.{Settings}
 use Rattle.call.specs.declared.Input.{Input}
-use Rattle.stepping.specs.Numbers.{numberBeforeRow}
+use Rattle.step_numbers.specs.Numbers.{numberBeforeRow}
 use Rattle.stepping.specs.Sending.{lineSent, sendNumber}
 use Rattle.stepping.proofs.Stepping.{tests-parts, Taken, SentGood, number-passed}
 use Rattle.stepping.proofs.Stepping as stepping

@@ -9,7 +9,7 @@ use Rattle.call.specs.Request.{requestOf}
 use Rattle.call.specs.declared.Settings.{Settings}
 use Rattle.call.specs.declared.Event.{Event}
 use Rattle.call.specs.declared.Input.{Input}
-use Rattle.stepping.specs.Numbers.{numberOfTests}
+use Rattle.step_numbers.specs.Numbers.{numberOfTests}
 use Rattle.stepping.specs.Sending.{lineSent, numberSending}
 use Rattle.private_record.specs.Phases.{noTimer}
 use Rattle.private_record.specs.Formed.{wellFormed}

@@ -13,7 +13,7 @@ use private_record::states::PrivateRecord;
 use private_record::states::Timers;
 use private_record::well_formed;
 use private_rows::row_of;
-use stepping::number_before_row;
+use step_numbers::number_before_row;
 use stepping::write_sent;
 use writer::Written;
 

@@ -11,7 +11,7 @@ use Rattle.log.proofs.answer_log.Reads as answer-log
 use Rattle.call.proofs.request_of.Reads as request-of
 use Rattle.call.proofs.requests.private_request.Reads as private-request
 use Rattle.call.proofs.announced_of.Reads as announced-of
-use Rattle.stepping.proofs.number_before_row.Reads as number-before-row
+use Rattle.step_numbers.proofs.number_before_row.Reads as number-before-row
 use Rattle.stepping.proofs.write_sent.Reads as write-sent
 use Rattle.private_record.proofs.well_formed.Reads as well-formed
 use Rattle.private_record.proofs.states.cleared_record.Reads as cleared-record
@@ -28,6 +28,7 @@ use Rattle.chooser.specs.Choice.{place}
 use Rattle.group_record.proofs.well_formed.Reads as group-well-formed
 use Rattle.group_record.proofs.states.cleared_record.Reads as group-cleared-record
 use Rattle.group_rows.proofs.row_of.Reads as group-row-of
+use Rattle.group_effects.proofs.effect_of.Reads as group-effect-of
 use Rattle.group_carried.proofs.carry_out.Reads as group-carry-out
 use Rattle.group_call.proofs.step.Reads as group-step
 use Rattle.panel.proofs.panel_line_check.Reads as panel-line-check
@@ -153,6 +154,10 @@ group-cleared-record-one κs = result-alone (λ a. tt) (λ a r q s t x y. same x
 -- the group row that an event meets
 pub group-row-of-one : (κs : Lifetimes.Lfts 0) → OneAnswer (group-row-of.Asked κs) (group-row-of.Learnt κs) (λ r. r) (λ t. tt {0})
 group-row-of-one κs = result-alone (λ a. tt) (λ a r q s t x y. same x y)
+
+-- what a group row does
+pub group-effect-of-one : (κs : Lifetimes.Lfts 0) → OneAnswer (group-effect-of.Asked κs) (group-effect-of.Learnt κs) (λ r. r) (λ t. tt {0})
+group-effect-of-one κs = result-alone (λ a. tt) (λ a r q s t x y. same x y)
 
 -- what carrying out a group row gives
 pub group-carry-out-one : (κs : Lifetimes.Lfts 0) → OneAnswer (group-carry-out.Asked κs) (group-carry-out.Learnt κs) (λ r. r) (λ t. tt {0})

@@ -19,7 +19,7 @@ use Rattle.call.specs.declared.Settings.{Settings}
 use Rattle.call.specs.declared.Input.{Input}
 use Rattle.call.specs.declared.Send.{Send}
 use Rattle.call.proofs.Laws.{holds}
-use Rattle.stepping.specs.Numbers.{heardGood, argumentsGood, numberBeforeRow, numberOfTests}
+use Rattle.step_numbers.specs.Numbers.{heardGood, argumentsGood, numberBeforeRow, numberOfTests}
 use Rattle.stepping.specs.Sending.{lineSent, sendNumber, numberSending}
 
 -- ---- the tests

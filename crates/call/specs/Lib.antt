@@ -1,5 +1,4 @@
 pub mod Settings
 pub mod Request
-pub mod Announced
 pub mod Timing
 pub mod Meeting

@@ -9,7 +9,7 @@ use Rattle.frame.specs.Range.{neverZero}
 use Rattle.frame.specs.Frame.{groupCallGood, inRange}
 use Rattle.frame.proofs.Laws.{and-split}
 use Rattle.call.specs.Settings.{settingsGood}
-use Rattle.call.specs.Announced.{announcedOf}
+use Rattle.announced.specs.Announced.{announcedOf}
 use Rattle.call.specs.declared.Settings.{Settings}
 use Rattle.call.specs.declared.GroupAction.{GroupAction}
 use Rattle.call.specs.declared.Input.{Input}

@@ -10,7 +10,7 @@ use Rattle.frame.specs.declared.Message.{Message}
 use Rattle.writer.specs.Lent.{atFront}
 use Rattle.call.specs.Settings.{settingsGood}
 use Rattle.call.specs.Request.{requestOf}
-use Rattle.call.specs.Announced.{announcedOf}
+use Rattle.announced.specs.Announced.{announcedOf}
 use Rattle.call.specs.Timing.{runsAfter}
 use Rattle.call.specs.declared.Settings.{Settings}
 use Rattle.call.specs.declared.PrivateTimer.{PrivateTimer}

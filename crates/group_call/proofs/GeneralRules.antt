@@ -4,7 +4,7 @@ use mathlib.Core.Path.{_≡_, sym, _∙_, subst}
 use mathlib.Core.List.{List}
 use mathlib.Core.Bool.{Bool, true, false}
 use lib.Dec.{eqb}
-use Rattle.call.specs.Announced.{announcedOf}
+use Rattle.announced.specs.Announced.{announcedOf}
 use Rattle.call.specs.Timing.{isStopped}
 use Rattle.call.specs.declared.Settings.{Settings}
 use Rattle.call.specs.declared.GroupTimer.{GroupTimer}

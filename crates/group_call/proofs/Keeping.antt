@@ -10,11 +10,11 @@ use Rattle.frame.specs.declared.Media.{Media}
 use Rattle.frame.specs.declared.GroupCall.{GroupCall}
 use Rattle.frame.specs.declared.Message.the-variants.{Announcement}
 use Rattle.frame.proofs.Laws.{and-split}
-use Rattle.call.specs.Announced.{announcedOf}
+use Rattle.announced.specs.Announced.{announcedOf}
 use Rattle.call.specs.declared.Settings.{Settings}
 use Rattle.call.specs.declared.GroupTimer.{GroupTimer}
 use Rattle.call.specs.declared.Input.{Input}
-use Rattle.call.specs.declared.Announced.{Announced}
+use Rattle.announced.specs.declared.Announced.{Announced}
 use Rattle.call.proofs.Laws.{both, beq-same}
 use Rattle.stepping.proofs.Stepping.{Taken, SentGood}
 use Rattle.group_record.specs.States.{has, setOf, sameTimers, runningOf}

@@ -9,7 +9,8 @@ use lib.Dec.{eqb}
 use Rattle.frame.specs.Media.{noMedia}
 use Rattle.frame.specs.declared.Media.{Media}
 use Rattle.frame.specs.declared.GroupCall.{GroupCall}
-use Rattle.call.specs.Announced.{noGroupCall, announcedOf}
+use Rattle.frame.specs.Frame.{noGroupCall}
+use Rattle.announced.specs.Announced.{announcedOf}
 use Rattle.call.specs.declared.Settings.{Settings}
 use Rattle.call.specs.declared.Input.{Input}
 use Rattle.stepping.proofs.Answers.{by-cases}

@@ -6,7 +6,7 @@ use mathlib.Core.List.{List}
 use mathlib.Core.Bool.{true, false, not, _&&_, true≢false}
 use lib.Dec.{eqb}
 use Rattle.frame.specs.declared.Media.{Media}
-use Rattle.call.specs.Announced.{announcedOf}
+use Rattle.announced.specs.Announced.{announcedOf}
 use Rattle.call.specs.Settings.{settingsGood}
 use Rattle.call.specs.declared.Settings.{Settings}
 use Rattle.call.specs.declared.Verdicts.{Verdicts}

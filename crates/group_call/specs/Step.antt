@@ -5,7 +5,7 @@ use mathlib.Core.Bool.{Bool, cond, not, _&&_}
 use lib.ListN.{length}
 use lib.Dec.{eqb}
 use Rattle.writer.specs.Lent.{lentAfter}
-use Rattle.call.specs.Announced.{announcedOf}
+use Rattle.announced.specs.Announced.{announcedOf}
 use Rattle.call.specs.declared.Settings.{Settings}
 use Rattle.call.specs.declared.Event.{Event}
 use Rattle.call.specs.declared.Input.{Input}

@@ -2,10 +2,10 @@
 ghost use mathlib.Core.Path.{_≡_};
 ghost use Rattle.group_rows.specs.Rows.{rowNumber};
 ghost use Rattle.group_call.specs.Step.{changeTooEarly, refusedOf, movedOf, stepOf, stepBuffer};
+use announced::announced_of;
 use call::Event;
 use call::Input;
 use call::Settings;
-use call::announced_of;
 use group_carried::Carried;
 use group_carried::carry_out;
 use group_record::rows::Row;

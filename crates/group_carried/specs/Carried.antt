@@ -7,14 +7,15 @@ use Rattle.frame.specs.declared.Media.{Media}
 use Rattle.frame.specs.declared.GroupCall.{GroupCall}
 use Rattle.frame.specs.declared.Acceptance.{Acceptance}
 use Rattle.frame.specs.declared.Message.the-variants.{Announcement, GroupAccept}
-use Rattle.call.specs.Announced.{noGroupCall, announcedOf}
+use Rattle.frame.specs.Frame.{noGroupCall}
+use Rattle.announced.specs.Announced.{announcedOf}
 use Rattle.call.specs.Timing.{isStopped, runsAfter}
 use Rattle.call.specs.declared.Settings.{Settings}
 use Rattle.call.specs.declared.GroupTimer.{GroupTimer}
 use Rattle.call.specs.declared.Timer.{Timer}
 use Rattle.call.specs.declared.Event.{Event}
 use Rattle.call.specs.declared.Input.{Input}
-use Rattle.call.specs.declared.Announced.{Announced}
+use Rattle.announced.specs.declared.Announced.{Announced}
 use Rattle.call.specs.declared.Send.{Send}
 use Rattle.group_record.specs.States.{stateNumber, has, setOf, noTimer, tfg2, tfg4, tfg6}
 use Rattle.group_record.specs.declared.states.State.{State}

@@ -3,10 +3,10 @@ mod settled;
 
 ghost use mathlib.Core.Path.{_≡_};
 ghost use Rattle.group_carried.specs.Carried.{carryOut};
+use announced::announced_of;
 use call::Input;
 use call::Send;
 use call::Settings;
-use call::announced_of;
 use group_effects::effect_of;
 use group_record::rows::Row;
 use group_record::states::GroupRecord;

@@ -7,9 +7,9 @@ ghost use Rattle.group_rows.specs.Rows.{rowOf};
 use crate::causes::cause_of;
 use crate::causes::facts_of;
 use crate::rows::row_in;
+use announced::announced_of;
 use call::Event;
 use call::Settings;
-use call::announced_of;
 use group_record::rows::Row;
 use group_record::states::GroupRecord;
 

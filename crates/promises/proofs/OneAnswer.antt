@@ -10,7 +10,7 @@ use Rattle.log.proofs.first_line_length.Reads as first-line-length
 use Rattle.log.proofs.answer_log.Reads as answer-log
 use Rattle.call.proofs.request_of.Reads as request-of
 use Rattle.call.proofs.requests.private_request.Reads as private-request
-use Rattle.call.proofs.announced_of.Reads as announced-of
+use Rattle.announced.proofs.announced_of.Reads as announced-of
 use Rattle.step_numbers.proofs.number_before_row.Reads as number-before-row
 use Rattle.stepping.proofs.write_sent.Reads as write-sent
 use Rattle.private_record.proofs.well_formed.Reads as well-formed

@@ -10,7 +10,7 @@ use Rattle.frame.specs.declared.Media.{Media}
 use Rattle.frame.specs.declared.Message.the-variants.{Announcement}
 use Rattle.call.specs.Settings.{settingsGood}
 use Rattle.call.specs.Request.{asMessage, startRequest}
-use Rattle.call.specs.Announced.{startedGroupCall}
+use Rattle.announced.specs.Announced.{startedGroupCall}
 use Rattle.call.specs.declared.Settings.{Settings}
 use Rattle.call.specs.declared.PrivateStart.{PrivateStart}
 use Rattle.call.specs.declared.PrivateAction.{PrivateAction}

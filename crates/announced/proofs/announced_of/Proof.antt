@@ -1,7 +1,7 @@
--- `call::announced_of` meets its contract. Assumes nothing.
+-- `announced::announced_of` meets its contract. Assumes nothing.
 use borrow.Author.Needs.{needs}
-use Rattle.call.proofs.announced_of.Statement.{statement}
-use Rattle.call.proofs.announced_of.Tie as tie
+use Rattle.announced.proofs.announced_of.Statement.{statement}
+use Rattle.announced.proofs.announced_of.Tie as tie
 
 pub announced-of-spec : {M : Type 1} → statement M
 announced-of-spec =

@@ -1,7 +1,7 @@
--- `call::announcements::message_announced` meets its contract. Assumes nothing.
+-- `announced::announcements::message_announced` meets its contract. Assumes nothing.
 use borrow.Author.Needs.{needs}
-use Rattle.call.proofs.announcements.message_announced.Statement.{statement}
-use Rattle.call.proofs.announcements.message_announced.Tie as tie
+use Rattle.announced.proofs.announcements.message_announced.Statement.{statement}
+use Rattle.announced.proofs.announcements.message_announced.Tie as tie
 
 pub message-announced-spec : {M : Type 1} → statement M
 message-announced-spec =

@@ -1,13 +1,13 @@
-// The announcement that an event brings.
+// The announcements of actions and messages.
 ghost use mathlib.Core.Path.{_≡_};
-ghost use Rattle.call.specs.Announced.{startedGroupCall, raisedTo, groupActionAnnounced};
-ghost use Rattle.call.specs.Announced.{actionAnnounced, messageAnnounced};
-use crate::Action;
+ghost use Rattle.announced.specs.Announced.{startedGroupCall, raisedTo, groupActionAnnounced};
+ghost use Rattle.announced.specs.Announced.{actionAnnounced, messageAnnounced};
 use crate::Announced;
-use crate::GroupAction;
-use crate::GroupRaise;
-use crate::GroupStart;
-use crate::Settings;
+use call::Action;
+use call::GroupAction;
+use call::GroupRaise;
+use call::GroupStart;
+use call::Settings;
 use frame::GroupCall;
 use frame::Message;
 

@@ -1,28 +1,15 @@
 -- The announcement that an event brings. Assumes nothing.
+use Rattle.frame.specs.Frame.{noGroupCall}
 use Rattle.frame.specs.declared.GroupCall.{GroupCall}
 use Rattle.frame.specs.declared.Message.{Message}
 use Rattle.frame.specs.declared.Message.the-variants.{SetupRequest, Ringing, Accept, Reject, Release, ReleaseAck, AcceptAck, Announcement, GroupAccept}
 use Rattle.call.specs.declared.Settings.{Settings}
 use Rattle.call.specs.declared.GroupStart.{GroupStart}
 use Rattle.call.specs.declared.GroupRaise.{GroupRaise}
 use Rattle.call.specs.declared.GroupAction.{GroupAction}
 use Rattle.call.specs.declared.Action.{Action}
 use Rattle.call.specs.declared.Event.{Event}
-use Rattle.call.specs.declared.Announced.{Announced}
-
--- the group call where there is none
-abbrev pub noGroupCall : GroupCall
-noGroupCall =
-    record {
-      identifier = 0;
-      group = 0;
-      «call_type» = 0;
-      refresh = 0;
-      originator = 0;
-      start = 0;
-      «last_change» = 0;
-      «last_changer» = 0;
-    }
+use Rattle.announced.specs.declared.Announced.{Announced}
 
 -- no announcement
 abbrev pub noAnnouncement : Announced

@@ -1,4 +1,3 @@
-pub mod Lines
 pub mod LineByLine
 pub mod Turns
 pub mod Answering

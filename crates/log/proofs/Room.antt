@@ -9,9 +9,9 @@ use lib.ListN.{length, drop, length-append}
 use borrow.Author.Tests.{leb-true, leb-false, lt-ltb, le-ltb}
 use Rattle.writer.specs.Lent.{atFront}
 use Rattle.writer.specs.declared.Written.{Written}
-use Rattle.log.specs.Lines.{CutPlace}
+use Rattle.log_lines.specs.Lines.{CutPlace}
 use Rattle.log.specs.Answer.{answerOf, answerNumber, answerTold, answerBuffer}
-use Rattle.log.proofs.Lines.{cut-place}
+use Rattle.log_lines.proofs.Lines.{cut-place}
 use Rattle.log.proofs.LineByLine.{answer-within}
 
 -- what is told, what the buffer holds, and that it can be cut behind so many bytes

@@ -8,8 +8,8 @@ use lib.ListN.{length, take, drop, length-append, length-drop, drop-of-length-le
 use lib.Seq.{take-all, take-at, drop-at, drop-drop, length-take-le}
 use borrow.Rule.Slice.PartMut.{putMid}
 use Rattle.writer.specs.Lent.{atFront}
-use Rattle.log.specs.Lines.{linesOf, firstLine, afterFirst}
-use Rattle.log.proofs.Lines.{lines-first, first-is-front, after-is-rest, first-within, first-some}
+use Rattle.log_lines.specs.Lines.{linesOf, firstLine, afterFirst}
+use Rattle.log_lines.proofs.Lines.{lines-first, first-is-front, after-is-rest, first-within, first-some}
 
 -- the part of a log from a place on, as the code has it
 abbrev pub partFrom : List ℕ → ℕ → List ℕ

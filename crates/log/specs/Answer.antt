@@ -9,7 +9,7 @@ use Rattle.frame.specs.Number.{firstGiven}
 use Rattle.reader.specs.Line.{lineNumber}
 use Rattle.writer.specs.Lent.{told, lentAfter}
 use Rattle.writer.specs.declared.Written.{Written}
-use Rattle.log.specs.Lines.{linesOf, joined}
+use Rattle.log_lines.specs.Lines.{linesOf, joined}
 
 -- `!`
 abbrev pub mark : ℕ

@@ -1,5 +1,5 @@
 // The answers to the lines of a log, one after the other.
-use crate::first_line_length;
+use log_lines::first_line_length;
 ghost use mathlib.Core.Path.{_≡_};
 ghost use Prim.Native.Nat.{_≤_};
 ghost use lib.Dec.{leb};

@@ -6,7 +6,7 @@ use Rattle.frame.proofs.carried.media_none.Reads as media-none
 use Rattle.reader.proofs.check_line.Reads as check-line
 use Rattle.reader.proofs.read_line.Reads as read-line
 use Rattle.writer.proofs.write_line.Reads as write-line
-use Rattle.log.proofs.first_line_length.Reads as first-line-length
+use Rattle.log_lines.proofs.first_line_length.Reads as first-line-length
 use Rattle.log.proofs.answer_log.Reads as answer-log
 use Rattle.call.proofs.request_of.Reads as request-of
 use Rattle.call.proofs.requests.private_request.Reads as private-request

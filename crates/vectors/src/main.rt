@@ -48,7 +48,7 @@ fn input(event: Event, media: Media) -> Input {
 
 // Writes the line at the front of the buffer, and ahead of it a complaint where the step told another length.
 fn show(out: &[u8], told: usize) {
-    let length = log::first_line_length(out);
+    let length = log_lines::first_line_length(out);
     if length != told {
         io::write_all(
             STDOUT_FILENO,

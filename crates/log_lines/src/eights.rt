@@ -2,7 +2,7 @@
 ghost use mathlib.Core.Path.{_≡_};
 ghost use Prim.Native.Nat.{_+_, _≤_};
 ghost use lib.ListN.{length};
-ghost use Rattle.log.specs.Lines.{endWithin, WithoutEnd};
+ghost use Rattle.log_lines.specs.Lines.{endWithin, WithoutEnd};
 
 // Whether one of the eight bytes from place at on ends a line.
 fn end_in_eight(part: &[u8], at: usize) -> bool

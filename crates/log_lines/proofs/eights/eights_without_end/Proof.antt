@@ -1,13 +1,13 @@
--- `log::eights::eights_without_end` meets its contract: no line ends in the bytes passed. Assumes nothing.
+-- `log_lines::eights::eights_without_end` meets its contract: no line ends in the bytes passed. Assumes nothing.
 use mathlib.Core.Path.{refl, sym, _∙_}
 use Prim.Native.Nat.{_-_}
 use native.Mathlib.Omega.{arith}
 use lib.ListN.{length}
-use Rattle.log.specs.Lines.{WithoutEnd}
-use Rattle.log.proofs.Lines.{passed-more}
+use Rattle.log_lines.specs.Lines.{WithoutEnd}
+use Rattle.log_lines.proofs.Lines.{passed-more}
 use borrow.Author.Needs.{needs}
-use Rattle.log.proofs.eights.eights_without_end.Statement.{statement}
-use Rattle.log.proofs.eights.eights_without_end.Tie as tie
+use Rattle.log_lines.proofs.eights.eights_without_end.Statement.{statement}
+use Rattle.log_lines.proofs.eights.eights_without_end.Tie as tie
 
 abbrev Inv-loop : tie.InvT-loop
 Inv-loop part at₀ at = WithoutEnd at part

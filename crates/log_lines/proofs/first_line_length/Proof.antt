@@ -1,15 +1,15 @@
--- `log::first_line_length` meets its contract: each byte passed ended no line, and the first that does is the last of its line.
+-- `log_lines::first_line_length` meets its contract: each byte passed ended no line, and the first that does is the last of its line.
 -- Assumes nothing.
 use Prim.Native.Nat.{_+_, _-_}
 use native.Mathlib.Nat.{add-zero}
 use native.Mathlib.Omega.{arith}
 use lib.ListN.{length}
 use borrow.Author.Tests.{eq-eqb, ne-eqb}
-use Rattle.log.specs.Lines.{WithoutEnd}
-use Rattle.log.proofs.Lines.{cut-place, first-stop, first-none, passed-more, first-skips}
+use Rattle.log_lines.specs.Lines.{WithoutEnd}
+use Rattle.log_lines.proofs.Lines.{cut-place, first-stop, first-none, passed-more, first-skips}
 use borrow.Author.Needs.{needs}
-use Rattle.log.proofs.first_line_length.Statement.{statement}
-use Rattle.log.proofs.first_line_length.Tie as tie
+use Rattle.log_lines.proofs.first_line_length.Statement.{statement}
+use Rattle.log_lines.proofs.first_line_length.Tie as tie
 
 abbrev Inv-loop : tie.InvT-loop
 Inv-loop part at₀ at = WithoutEnd at part

@@ -11,7 +11,7 @@ use lib.ListN.{length, take, drop, getD, length-append, drop-of-length-le}
 use lib.Seq.{length-take-le, take-append-seam, drop-append-seam, drop-cons}
 use borrow.Author.Tests.{not-true}
 use Rattle.frame.proofs.Laws.{and-split, or-cases, or-none, or-split}
-use Rattle.log.specs.Lines.{isEnd, ahead, linesOf, joined, firstLine, afterFirst, endWithin, WithoutEnd, endedLine, unendedPiece, cutAtEnds, CutPlace}
+use Rattle.log_lines.specs.Lines.{isEnd, ahead, linesOf, joined, firstLine, afterFirst, endWithin, WithoutEnd, endedLine, unendedPiece, cutAtEnds, CutPlace}
 
 -- ---- joined
 

@@ -1,8 +1,8 @@
--- `log::eights::end_in_eight` meets its contract: the eight tests are the definition's. Assumes nothing.
+-- `log_lines::eights::end_in_eight` meets its contract: the eight tests are the definition's. Assumes nothing.
 use native.Mathlib.Nat.{add-zero}
 use borrow.Author.Needs.{needs}
-use Rattle.log.proofs.eights.end_in_eight.Statement.{statement}
-use Rattle.log.proofs.eights.end_in_eight.Tie as tie
+use Rattle.log_lines.proofs.eights.end_in_eight.Statement.{statement}
+use Rattle.log_lines.proofs.eights.end_in_eight.Tie as tie
 
 pub end-in-eight-spec : {M : Type 1} → statement M
 end-in-eight-spec =

@@ -36,7 +36,7 @@ use Rattle.panel.proofs.panel_choose.Reads as panel-choose
 use Rattle.panel.proofs.panel_choose_number.Reads as panel-choose-number
 use Rattle.trial.proofs.trial_value.Reads as trial-value
 use Rattle.trial.proofs.trial_write_line.Reads as trial-write-line
-use Rattle.trial.proofs.trial_answer_log.Reads as trial-answer-log
+use Rattle.trial_log.proofs.trial_answer_log.Reads as trial-answer-log
 use Rattle.pace.proofs.pace_private_steps.Reads as pace-private-steps
 use Rattle.pace.proofs.pace_group_steps.Reads as pace-group-steps
 use Rattle.promises.specs.OneAnswer.{OneAnswer}

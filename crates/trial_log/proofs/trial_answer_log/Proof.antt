@@ -1,9 +1,9 @@
--- `trial::trial_answer_log` meets its contract: it tells the length of the answer, and the buffer is that of the answer. Assumes nothing.
+-- `trial_log::trial_answer_log` meets its contract: it tells the length of the answer, and the buffer is that of the answer. Assumes nothing.
 use mathlib.Core.Path.{ap}
 use Rattle.writer.specs.declared.Written.{Written}
 use borrow.Author.Needs.{needs}
-use Rattle.trial.proofs.trial_answer_log.Statement.{statement}
-use Rattle.trial.proofs.trial_answer_log.Tie as tie
+use Rattle.trial_log.proofs.trial_answer_log.Statement.{statement}
+use Rattle.trial_log.proofs.trial_answer_log.Tie as tie
 
 pub trial-answer-log-spec : {M : Type 1} → statement M
 trial-answer-log-spec =

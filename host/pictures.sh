@@ -38,7 +38,7 @@ draw private-call private_rows/specs/Rows.antt private_effects/specs/Effects.ant
     private_carried/specs/Carried.antt "The private call machine" \
     "The states P0 to P5 as boxes, each with the timers that run in it and the rows that stay in it; the rows R1 to R29 that lead from one \
 state to another as arrows, each with what causes it and what it does."
-draw group-call group_rows/specs/Rows.antt group_carried/specs/Effects.antt group_record/specs/States.antt \
+draw group-call group_rows/specs/Rows.antt group_effects/specs/Effects.antt group_record/specs/States.antt \
     group_carried/specs/Carried.antt "The group call machine" \
     "The states S1, S3, S4 and S5 as boxes, each with the timers that run in it and the rows that stay in it; the rows G1 to G11 that lead \
 from one state to another as arrows, each with what causes it and what it does."

@@ -10,7 +10,7 @@ private_rows=crates/private_rows/specs/Rows.antt
 private_effects=crates/private_effects/specs/Effects.antt
 private_phases=crates/private_record/specs/Phases.antt
 group_rows=crates/group_rows/specs/Rows.antt
-group_effects=crates/group_carried/specs/Effects.antt
+group_effects=crates/group_effects/specs/Effects.antt
 tables="$private_rows $private_effects $private_phases $group_rows $group_effects crates/group_record/specs/States.antt
     crates/private_carried/specs/Carried.antt crates/group_carried/specs/Carried.antt"
 pictures="docs/private-call.svg docs/group-call.svg"

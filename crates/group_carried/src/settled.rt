@@ -1,5 +1,6 @@
 // The general rules, over all rows: timers, the call and the message.
 ghost use mathlib.Core.Path.{_≡_};
+ghost use Rattle.call.specs.Timing.{isStopped, runsAfter};
 ghost use Rattle.group_record.specs.States.{stateNumber};
 ghost use Rattle.group_carried.specs.Carried.{ranOut, timerOut, groupTimerOut, changes, stoppedOf, runningAfter};
 ghost use Rattle.group_carried.specs.Carried.{isLater, changedBy, laterChange, heldOf, mediaHeld};
@@ -71,8 +72,15 @@ pub(crate) fn state_changes(state: State, to: State) -> bool
     !(state_number(state) == state_number(to))
 }
 
-// What stops: what runs and did not just run out, where the row asks for it, or the state changes and it is not started
-// again.
+// Whether a timer is stopped: it runs and did not just run out, and the row asks for it, or the state changes and it is
+// not started again.
+fn is_stopped(changed: bool, asked: bool, was: bool, started: bool, out: bool) -> bool
+    ensures { λ r. ⌜ r ≡ isStopped changed asked was started out ⌝ }
+{
+    was & (!out & (asked | (changed & !started)))
+}
+
+// What stops.
 pub(crate) fn stopped(
     changed: bool,
     asked: Timers,
@@ -83,20 +91,27 @@ pub(crate) fn stopped(
     ensures { λ r. ⌜ r ≡ stoppedOf changed asked was started out ⌝ }
 {
     Timers {
-        tfg2: was.tfg2 & (!out.tfg2 & (asked.tfg2 | (changed & !started.tfg2))),
-        tfg4: was.tfg4 & (!out.tfg4 & (asked.tfg4 | (changed & !started.tfg4))),
-        tfg6: was.tfg6 & (!out.tfg6 & (asked.tfg6 | (changed & !started.tfg6))),
+        tfg2: is_stopped(changed, asked.tfg2, was.tfg2, started.tfg2, out.tfg2),
+        tfg4: is_stopped(changed, asked.tfg4, was.tfg4, started.tfg4, out.tfg4),
+        tfg6: is_stopped(changed, asked.tfg6, was.tfg6, started.tfg6, out.tfg6),
     }
 }
 
-// What runs afterwards: what started, and what ran and neither stopped nor ran out.
+// Whether a timer runs afterwards: it was started, or it ran and was neither stopped nor ran out.
+fn runs_after(was: bool, stopped: bool, out: bool, started: bool) -> bool
+    ensures { λ r. ⌜ r ≡ runsAfter was stopped out started ⌝ }
+{
+    started | (was & (!stopped & !out))
+}
+
+// What runs afterwards.
 pub(crate) fn running_after(was: Timers, stopped: Timers, out: Timers, started: Timers) -> Timers
     ensures { λ r. ⌜ r ≡ runningAfter was stopped out started ⌝ }
 {
     Timers {
-        tfg2: started.tfg2 | (was.tfg2 & (!stopped.tfg2 & !out.tfg2)),
-        tfg4: started.tfg4 | (was.tfg4 & (!stopped.tfg4 & !out.tfg4)),
-        tfg6: started.tfg6 | (was.tfg6 & (!stopped.tfg6 & !out.tfg6)),
+        tfg2: runs_after(was.tfg2, stopped.tfg2, out.tfg2, started.tfg2),
+        tfg4: runs_after(was.tfg4, stopped.tfg4, out.tfg4, started.tfg4),
+        tfg6: runs_after(was.tfg6, stopped.tfg6, out.tfg6, started.tfg6),
     }
 }
 

@@ -1,6 +1,7 @@
 // The general rules, over all rows: timers, counters, the call and the message.
 ghost use mathlib.Core.Path.{_≡_};
 ghost use Rattle.call.specs.Request.{asMessage};
+ghost use Rattle.call.specs.Timing.{isStopped, runsAfter};
 ghost use Rattle.private_record.specs.Phases.{stateNumber};
 ghost use Rattle.private_record.specs.Formed.{callRequest};
 ghost use Rattle.private_carried.specs.Carried.{ranOut, timerOut, privateTimerOut, changes, startedOf};
@@ -95,8 +96,15 @@ pub(crate) fn started(state: State, to: State, start: Timers) -> Timers
     }
 }
 
-// What stops: what runs and did not just run out, where the row asks for it, or the state changes and it is not started
-// again.
+// Whether a timer is stopped: it runs and did not just run out, and the row asks for it, or the state changes and it is
+// not started again.
+fn is_stopped(changed: bool, asked: bool, was: bool, started: bool, out: bool) -> bool
+    ensures { λ r. ⌜ r ≡ isStopped changed asked was started out ⌝ }
+{
+    was & (!out & (asked | (changed & !started)))
+}
+
+// What stops.
 pub(crate) fn stopped(
     changed: bool,
     asked: Timers,
@@ -107,26 +115,33 @@ pub(crate) fn stopped(
     ensures { λ r. ⌜ r ≡ stoppedOf changed asked was started out ⌝ }
 {
     Timers {
-        tfp1: was.tfp1 & (!out.tfp1 & (asked.tfp1 | (changed & !started.tfp1))),
-        tfp2: was.tfp2 & (!out.tfp2 & (asked.tfp2 | (changed & !started.tfp2))),
-        tfp3: was.tfp3 & (!out.tfp3 & (asked.tfp3 | (changed & !started.tfp3))),
-        tfp4: was.tfp4 & (!out.tfp4 & (asked.tfp4 | (changed & !started.tfp4))),
-        tfp5: was.tfp5 & (!out.tfp5 & (asked.tfp5 | (changed & !started.tfp5))),
-        tfp7: was.tfp7 & (!out.tfp7 & (asked.tfp7 | (changed & !started.tfp7))),
+        tfp1: is_stopped(changed, asked.tfp1, was.tfp1, started.tfp1, out.tfp1),
+        tfp2: is_stopped(changed, asked.tfp2, was.tfp2, started.tfp2, out.tfp2),
+        tfp3: is_stopped(changed, asked.tfp3, was.tfp3, started.tfp3, out.tfp3),
+        tfp4: is_stopped(changed, asked.tfp4, was.tfp4, started.tfp4, out.tfp4),
+        tfp5: is_stopped(changed, asked.tfp5, was.tfp5, started.tfp5, out.tfp5),
+        tfp7: is_stopped(changed, asked.tfp7, was.tfp7, started.tfp7, out.tfp7),
     }
 }
 
-// What runs afterwards: what started, and what ran and neither stopped nor ran out.
+// Whether a timer runs afterwards: it was started, or it ran and was neither stopped nor ran out.
+fn runs_after(was: bool, stopped: bool, out: bool, started: bool) -> bool
+    ensures { λ r. ⌜ r ≡ runsAfter was stopped out started ⌝ }
+{
+    started | (was & (!stopped & !out))
+}
+
+// What runs afterwards.
 pub(crate) fn running_after(was: Timers, stopped: Timers, out: Timers, started: Timers) -> Timers
     ensures { λ r. ⌜ r ≡ runningAfter was stopped out started ⌝ }
 {
     Timers {
-        tfp1: started.tfp1 | (was.tfp1 & (!stopped.tfp1 & !out.tfp1)),
-        tfp2: started.tfp2 | (was.tfp2 & (!stopped.tfp2 & !out.tfp2)),
-        tfp3: started.tfp3 | (was.tfp3 & (!stopped.tfp3 & !out.tfp3)),
-        tfp4: started.tfp4 | (was.tfp4 & (!stopped.tfp4 & !out.tfp4)),
-        tfp5: started.tfp5 | (was.tfp5 & (!stopped.tfp5 & !out.tfp5)),
-        tfp7: started.tfp7 | (was.tfp7 & (!stopped.tfp7 & !out.tfp7)),
+        tfp1: runs_after(was.tfp1, stopped.tfp1, out.tfp1, started.tfp1),
+        tfp2: runs_after(was.tfp2, stopped.tfp2, out.tfp2, started.tfp2),
+        tfp3: runs_after(was.tfp3, stopped.tfp3, out.tfp3, started.tfp3),
+        tfp4: runs_after(was.tfp4, stopped.tfp4, out.tfp4, started.tfp4),
+        tfp5: runs_after(was.tfp5, stopped.tfp5, out.tfp5, started.tfp5),
+        tfp7: runs_after(was.tfp7, stopped.tfp7, out.tfp7, started.tfp7),
     }
 }
 

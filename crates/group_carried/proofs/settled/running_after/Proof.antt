@@ -1,6 +1,6 @@
 -- `group_carried::settled::running_after` meets its contract. Assumes nothing.
-use mathlib.Core.Path.{refl}
 use Rattle.group_carried.specs.Carried.{runningAfter}
+use borrow.Author.Needs.{needs}
 use Rattle.group_carried.proofs.settled.running_after.Statement.{statement}
 use Rattle.group_carried.proofs.settled.running_after.Tie as tie
 
@@ -9,4 +9,7 @@ unfolding runningAfter
 running-after-spec =
     tie.close
     (tie.spec
-    (λ c. refl))
+    (λ c κs. search needs)
+    (λ c κs. search needs)
+    (λ c κs. search needs)
+    (λ c. rw (c .runs-after3 .ensures, c .before .runs-after2 .ensures, c .before .before .runs-after .ensures)))

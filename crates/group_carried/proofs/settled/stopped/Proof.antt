@@ -1,6 +1,6 @@
 -- `group_carried::settled::stopped` meets its contract. Assumes nothing.
-use mathlib.Core.Path.{refl}
 use Rattle.group_carried.specs.Carried.{stoppedOf}
+use borrow.Author.Needs.{needs}
 use Rattle.group_carried.proofs.settled.stopped.Statement.{statement}
 use Rattle.group_carried.proofs.settled.stopped.Tie as tie
 
@@ -9,4 +9,7 @@ unfolding stoppedOf
 stopped-spec =
     tie.close
     (tie.spec
-    (λ c. refl))
+    (λ c κs. search needs)
+    (λ c κs. search needs)
+    (λ c κs. search needs)
+    (λ c. rw (c .is-stopped3 .ensures, c .before .is-stopped2 .ensures, c .before .before .is-stopped .ensures)))

@@ -1,6 +1,6 @@
 -- `private_carried::settled::running_after` meets its contract. Assumes nothing.
-use mathlib.Core.Path.{refl}
 use Rattle.private_carried.specs.Carried.{runningAfter}
+use borrow.Author.Needs.{needs}
 use Rattle.private_carried.proofs.settled.running_after.Statement.{statement}
 use Rattle.private_carried.proofs.settled.running_after.Tie as tie
 
@@ -9,4 +9,10 @@ unfolding runningAfter
 running-after-spec =
     tie.close
     (tie.spec
-    (λ c. refl))
+    (λ c κs. search needs)
+    (λ c κs. search needs)
+    (λ c κs. search needs)
+    (λ c κs. search needs)
+    (λ c κs. search needs)
+    (λ c κs. search needs)
+    (λ c. rw (c .runs-after6 .ensures, c .before .runs-after5 .ensures, c .before .before .runs-after4 .ensures, c .before .before .before .runs-after3 .ensures, c .before .before .before .before .runs-after2 .ensures, c .before .before .before .before .before .runs-after .ensures)))

@@ -1,6 +1,6 @@
 -- `private_carried::settled::stopped` meets its contract. Assumes nothing.
-use mathlib.Core.Path.{refl}
 use Rattle.private_carried.specs.Carried.{stoppedOf}
+use borrow.Author.Needs.{needs}
 use Rattle.private_carried.proofs.settled.stopped.Statement.{statement}
 use Rattle.private_carried.proofs.settled.stopped.Tie as tie
 
@@ -9,4 +9,10 @@ unfolding stoppedOf
 stopped-spec =
     tie.close
     (tie.spec
-    (λ c. refl))
+    (λ c κs. search needs)
+    (λ c κs. search needs)
+    (λ c κs. search needs)
+    (λ c κs. search needs)
+    (λ c κs. search needs)
+    (λ c κs. search needs)
+    (λ c. rw (c .is-stopped6 .ensures, c .before .is-stopped5 .ensures, c .before .before .is-stopped4 .ensures, c .before .before .before .is-stopped3 .ensures, c .before .before .before .before .is-stopped2 .ensures, c .before .before .before .before .before .is-stopped .ensures)))

@@ -36,6 +36,15 @@ for crate in crates/*/; do
 done
 verdict "every folder of crates/ is listed in crates.txt" "$wrong"
 
+# Prints what each crate stands on, NAME: A, B, by crates.txt; what the kit brings is not told.
+stands_on() { sed -E 's/#.*//; /^ *$/d; s/ (bytes|io|libc)\b//g; s/: */: /; s/([a-z_]) ([a-z_])/\1, \2/g' crates.txt | sort; }
+
+# Prints the same by the map of README.md, but for the crates of which it says `all the libraries above`.
+mapped() { sed -nE 's/^\| \[([a-z_]+)\]\(crates\/[a-z_]+\) \|.*\| ?([^|]*) \|$/\1: \2/p' README.md | sort; }
+wrong=$({ diff <(listed | sort) <(mapped | cut -d : -f 1) && diff <(stands_on) <(mapped) | grep -vE '^[<>] (demands|promises): '; } |
+    grep '^[<>]' | paste -s -d ';')
+verdict "the map of README.md has every crate, with what it stands on" "$wrong"
+
 wrong=''
 for name in $(public_functions); do
     grep -qF "\`$name\`" docs/PROMISES.md || wrong="$wrong $name"

@@ -20,15 +20,15 @@ use Rattle.call.specs.declared.Send.{Send}
 use Rattle.step_numbers.specs.Numbers.{heardGood, argumentsGood}
 use Rattle.stepping.specs.Sending.{lineSent}
 use Rattle.private_record.specs.declared.states.Phase.{Phase}
+use Rattle.private_record.specs.declared.rows.Row.the-variants as PrivateRow
 use Rattle.private_rows.specs.Rows as Rows
 use Rattle.private_rows.specs.declared.causes.Cause.{Cause}
 use Rattle.private_rows.specs.declared.causes.Facts.{Facts}
-use Rattle.private_record.specs.declared.rows.Row.the-variants as PrivateRow
 use Rattle.group_record.specs.declared.states.State.{State}
+use Rattle.group_record.specs.declared.rows.Row.the-variants as GroupRow
 use Rattle.group_rows.specs.Rows as GroupRows
 use Rattle.group_rows.specs.declared.causes.Cause as GroupCause
 use Rattle.group_rows.specs.declared.causes.Facts as GroupFacts
-use Rattle.group_record.specs.declared.rows.Row.the-variants as GroupRow
 use Rattle.demands.specs.Machines.{Answer, Machine, lineToSend, Unrefused, CarriesOut, RowsHold, KeepsWellFormed, privateMachine, groupMachine}
 use Rattle.demands.specs.ExactlyWhen.{ExactlyWhen, SettingOut, Unformed, FieldOut, ArgumentOut, StepRoomless, StepExactlyWhen}
 use Rattle.demands.specs.NothingChanges.{StepNothingChanges}

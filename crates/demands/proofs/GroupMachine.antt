@@ -4,18 +4,18 @@ use mathlib.Core.Path.{_≡_, sym, ap, _∙_, subst}
 use mathlib.Core.Bool.{not}
 use lib.Dec.{ltb, eqb}
 use borrow.Author.Tests.{eq-eqb, ltb-false, le-ltb, not-true}
-use Rattle.announced.specs.Announced.{announcedOf}
 use Rattle.call.specs.Timing.{runsAfter}
 use Rattle.call.specs.declared.Settings.{Settings}
 use Rattle.call.specs.declared.GroupTimer.{GroupTimer}
 use Rattle.call.specs.declared.Input.{Input}
 use Rattle.call.specs.declared.Send.{Send}
+use Rattle.announced.specs.Announced.{announcedOf}
 use Rattle.stepping.proofs.Stepping.{SentGood}
 use Rattle.group_record.specs.States.{has}
 use Rattle.group_record.specs.declared.states.Timers.{Timers}
 use Rattle.group_record.specs.declared.states.GroupRecord.{GroupRecord}
-use Rattle.group_rows.specs.Rows.{rowNumber, rowOf}
 use Rattle.group_record.specs.declared.rows.Row.the-variants.{G9}
+use Rattle.group_rows.specs.Rows.{rowNumber, rowOf}
 use Rattle.group_rows.proofs.Meets.{same-row}
 use Rattle.group_carried.specs.Carried.{isLater, runningAfter}
 use Rattle.group_call.specs.Step.{changeTooEarly, doneOf, stepNumber}

@@ -22,12 +22,12 @@ use Rattle.private_record.specs.Formed.{wellFormed}
 use Rattle.private_record.specs.declared.states.State.{State}
 use Rattle.private_record.specs.declared.states.Phase.{Phase}
 use Rattle.private_record.specs.declared.states.PrivateRecord.{PrivateRecord}
+use Rattle.private_record.specs.declared.rows.Row.{Row}
+use Rattle.private_record.specs.declared.rows.Row.the-variants.{R1, R8, R9, R13, R25, R28}
 use Rattle.private_record.proofs.WellFormed.{fit}
 use Rattle.private_rows.specs.Causes.{causeOf, factsOf}
 use Rattle.private_rows.specs.Rows.{rowNumber, rowIn, rowOf}
 use Rattle.private_rows.specs.Found.{atOf, foundAt}
-use Rattle.private_record.specs.declared.rows.Row.{Row}
-use Rattle.private_record.specs.declared.rows.Row.the-variants.{R1, R8, R9, R13, R25, R28}
 use Rattle.private_rows.proofs.Meets.{found-is-met}
 use Rattle.private_effects.specs.Effects.{effectOf}
 use Rattle.private_carried.specs.Carried.{changes, carryOut}

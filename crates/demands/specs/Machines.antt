@@ -10,7 +10,6 @@ use Rattle.frame.specs.declared.Message.{Message}
 use Rattle.writer.specs.Lent.{atFront}
 use Rattle.call.specs.Settings.{settingsGood}
 use Rattle.call.specs.Request.{requestOf}
-use Rattle.announced.specs.Announced.{announcedOf}
 use Rattle.call.specs.Timing.{runsAfter}
 use Rattle.call.specs.declared.Settings.{Settings}
 use Rattle.call.specs.declared.PrivateTimer.{PrivateTimer}
@@ -18,14 +17,15 @@ use Rattle.call.specs.declared.GroupTimer.{GroupTimer}
 use Rattle.call.specs.declared.Event.{Event}
 use Rattle.call.specs.declared.Input.{Input}
 use Rattle.call.specs.declared.Send.{Send}
+use Rattle.announced.specs.Announced.{announcedOf}
 use Rattle.step_numbers.specs.Numbers.{heardGood, argumentsGood}
 use Rattle.stepping.specs.Sending.{lineSent}
 use Rattle.private_record.specs.Phases as Phases
 use Rattle.private_record.specs.Formed as Formed
 use Rattle.private_record.specs.declared.states.Timers as PrivateTimers
 use Rattle.private_record.specs.declared.states.PrivateRecord.{PrivateRecord}
-use Rattle.private_rows.specs.Rows.{rowOf}
 use Rattle.private_record.specs.declared.rows.Row.the-variants.{R1}
+use Rattle.private_rows.specs.Rows.{rowOf}
 use Rattle.private_carried.specs.Carried as Carried
 use Rattle.private_call.specs.Step.{doneOf, stepLine, movedOf, stepOf, stepBuffer}
 use Rattle.private_call.specs.declared.Stepped.{Stepped}
@@ -33,8 +33,8 @@ use Rattle.group_record.specs.States as GroupStates
 use Rattle.group_record.specs.Formed as GroupFormed
 use Rattle.group_record.specs.declared.states.Timers as GroupTimers
 use Rattle.group_record.specs.declared.states.GroupRecord.{GroupRecord}
-use Rattle.group_rows.specs.Rows as GroupRows
 use Rattle.group_record.specs.declared.rows.Row.the-variants.{G9}
+use Rattle.group_rows.specs.Rows as GroupRows
 use Rattle.group_carried.specs.Carried as GroupCarried
 use Rattle.group_call.specs.Step as GroupStep
 use Rattle.group_call.specs.declared.Stepped as GroupStepped

@@ -12,13 +12,13 @@ use Rattle.frame.specs.declared.GroupCall.{GroupCall}
 use Rattle.frame.specs.declared.Message.the-variants.{SetupRequest, Ringing, Accept, Reject, Release, ReleaseAck, AcceptAck, Announcement, GroupAccept}
 use Rattle.frame.proofs.Laws.{and-split}
 use Rattle.call.specs.Settings.{settingsGood}
-use Rattle.announced.specs.Announced.{announcedOf}
 use Rattle.call.specs.declared.Settings.{Settings}
 use Rattle.call.specs.declared.GroupTimer.{GroupTimer}
 use Rattle.call.specs.declared.Timer.{Timer}
 use Rattle.call.specs.declared.GroupAction.{GroupAction}
 use Rattle.call.specs.declared.Action.{Action}
 use Rattle.call.specs.declared.Event.{Event}
+use Rattle.announced.specs.Announced.{announcedOf}
 use Rattle.announced.specs.declared.Announced.{Announced}
 use Rattle.step_numbers.specs.Numbers.{heardGood, argumentsGood}
 use Rattle.group_record.specs.States.{noTimer, tfg2, tfg4, tfg6}

@@ -7,18 +7,18 @@ use mathlib.Core.Bool.{Bool, true, false, cond}
 use lib.ListN.{length}
 use lib.Dec.{eqb}
 use Rattle.frame.specs.Media.{noMedia}
+use Rattle.frame.specs.Frame.{noGroupCall}
 use Rattle.frame.specs.declared.Media.{Media}
 use Rattle.frame.specs.declared.GroupCall.{GroupCall}
-use Rattle.frame.specs.Frame.{noGroupCall}
-use Rattle.announced.specs.Announced.{announcedOf}
 use Rattle.call.specs.declared.Settings.{Settings}
 use Rattle.call.specs.declared.Input.{Input}
+use Rattle.announced.specs.Announced.{announcedOf}
 use Rattle.stepping.proofs.Answers.{by-cases}
 use Rattle.group_record.specs.declared.states.State.{State}
 use Rattle.group_record.specs.declared.states.GroupRecord.{GroupRecord}
-use Rattle.group_rows.specs.Rows.{rowNumber, rowOf}
 use Rattle.group_record.specs.declared.rows.Row.{Row}
 use Rattle.group_record.specs.declared.rows.Row.the-variants.{Discard, G1, G2, G3, G4, G5, G6, G7, G8, G9, G10, G11}
+use Rattle.group_rows.specs.Rows.{rowNumber, rowOf}
 use Rattle.group_effects.specs.Effects.{effectOf}
 use Rattle.group_carried.specs.Carried.{isLater, changedBy, heldOf, mediaHeld, carryOut}
 use Rattle.group_call.specs.Step.{doneOf, stepLine, stepNumber, refusedOf, movedOf, stepOf}

@@ -19,9 +19,9 @@ use Rattle.stepping.proofs.Stepping as stepping
 use Rattle.stepping.proofs.Answers.{by-cases}
 use Rattle.group_record.specs.Formed.{clearedRecord, wellFormed}
 use Rattle.group_record.specs.declared.states.GroupRecord.{GroupRecord}
-use Rattle.group_rows.specs.Rows.{rowNumber, rowOf}
 use Rattle.group_record.specs.declared.rows.Row.{Row}
 use Rattle.group_record.specs.declared.rows.Row.the-variants.{Discard}
+use Rattle.group_rows.specs.Rows.{rowNumber, rowOf}
 use Rattle.group_rows.proofs.Meets.{same-row}
 use Rattle.group_carried.specs.Carried.{ranOut, runningAfter, carryOut}
 use Rattle.group_carried.specs.declared.Carried.{Carried}

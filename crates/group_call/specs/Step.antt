@@ -5,17 +5,17 @@ use mathlib.Core.Bool.{Bool, cond, not, _&&_}
 use lib.ListN.{length}
 use lib.Dec.{eqb}
 use Rattle.writer.specs.Lent.{lentAfter}
-use Rattle.announced.specs.Announced.{announcedOf}
 use Rattle.call.specs.declared.Settings.{Settings}
 use Rattle.call.specs.declared.Event.{Event}
 use Rattle.call.specs.declared.Input.{Input}
+use Rattle.announced.specs.Announced.{announcedOf}
 use Rattle.step_numbers.specs.Numbers.{numberOfTests}
 use Rattle.stepping.specs.Sending.{lineSent, numberSending}
 use Rattle.group_record.specs.States.{noTimer}
 use Rattle.group_record.specs.Formed.{wellFormed}
 use Rattle.group_record.specs.declared.states.GroupRecord.{GroupRecord}
-use Rattle.group_rows.specs.Rows.{rowNumber, rowOf}
 use Rattle.group_record.specs.declared.rows.Row.{Row}
+use Rattle.group_rows.specs.Rows.{rowNumber, rowOf}
 use Rattle.group_carried.specs.Carried.{isLater, carryOut}
 use Rattle.group_carried.specs.declared.Carried.{Carried}
 use Rattle.group_call.specs.declared.Stepped.{Stepped}

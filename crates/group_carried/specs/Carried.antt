@@ -3,20 +3,20 @@ use Prim.Native.Nat.{ℕ}
 use mathlib.Core.Bool.{Bool, cond, not}
 use lib.Dec.{eqb, ltb}
 use Rattle.frame.specs.Media.{noMedia}
+use Rattle.frame.specs.Frame.{noGroupCall}
 use Rattle.frame.specs.declared.Media.{Media}
 use Rattle.frame.specs.declared.GroupCall.{GroupCall}
 use Rattle.frame.specs.declared.Acceptance.{Acceptance}
 use Rattle.frame.specs.declared.Message.the-variants.{Announcement, GroupAccept}
-use Rattle.frame.specs.Frame.{noGroupCall}
-use Rattle.announced.specs.Announced.{announcedOf}
 use Rattle.call.specs.Timing.{isStopped, runsAfter}
 use Rattle.call.specs.declared.Settings.{Settings}
 use Rattle.call.specs.declared.GroupTimer.{GroupTimer}
 use Rattle.call.specs.declared.Timer.{Timer}
 use Rattle.call.specs.declared.Event.{Event}
 use Rattle.call.specs.declared.Input.{Input}
-use Rattle.announced.specs.declared.Announced.{Announced}
 use Rattle.call.specs.declared.Send.{Send}
+use Rattle.announced.specs.Announced.{announcedOf}
+use Rattle.announced.specs.declared.Announced.{Announced}
 use Rattle.group_record.specs.States.{stateNumber, has, setOf, noTimer, tfg2, tfg4, tfg6}
 use Rattle.group_record.specs.declared.states.State.{State}
 use Rattle.group_record.specs.declared.states.Timers.{Timers}

@@ -1,5 +1,6 @@
 // What carrying out a row of the group call machine gives.
 mod settled;
+mod timers;
 
 ghost use mathlib.Core.Path.{_≡_};
 ghost use Rattle.group_carried.specs.Carried.{carryOut};
@@ -39,13 +40,13 @@ pub fn carry_out(settings: Settings, stored: GroupRecord, input: Input, row: Row
     let asked = effect.stop;
     let hold = effect.hold;
     let say = effect.say;
-    let out = settled::ran_out(event);
-    let stop = settled::stopped(settled::state_changes(state, to), asked, was, start, out);
+    let out = timers::ran_out(event);
+    let stop = timers::stopped(timers::state_changes(state, to), asked, was, start, out);
     let after = settled::held(hold, call, brought);
     Carried {
         next: GroupRecord {
             state: to,
-            running: settled::running_after(was, stop, out, start),
+            running: timers::running_after(was, stop, out, start),
             call: after,
             media: settled::media_held(hold, stored_media, media),
         },

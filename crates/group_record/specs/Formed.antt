@@ -2,11 +2,10 @@
 use mathlib.Core.Bool.{Bool, cond, _&&_}
 use lib.Dec.{eqb}
 use Rattle.frame.specs.Media.{noMedia, mediaNone}
-use Rattle.frame.specs.Frame.{inRange}
+use Rattle.frame.specs.Frame.{inRange, noGroupCall}
 use Rattle.frame.specs.declared.Media.{Media}
 use Rattle.frame.specs.declared.GroupCall.{GroupCall}
 use Rattle.frame.specs.declared.Message.the-variants.{Announcement}
-use Rattle.frame.specs.Frame.{noGroupCall}
 use Rattle.call.specs.declared.Settings.{Settings}
 use Rattle.group_record.specs.States.{stateNumber, noTimer, sameTimers, runningOf}
 use Rattle.group_record.specs.declared.states.State.{State}

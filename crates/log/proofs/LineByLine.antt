@@ -15,8 +15,8 @@ use Rattle.reader.specs.Line.{unended, reading, readLine, lineNumber}
 use Rattle.reader.proofs.LineNumbers.{unended-number, read-number}
 use Rattle.reader.proofs.OnlyLine.{line-is-the-only-one}
 use Rattle.log_lines.specs.Lines.{isEnd, linesOf, joined, unendedPiece, cutAtEnds}
-use Rattle.log.specs.Answer.{refusalLine, answerTo, answersTo, answerOf, AllReadable}
 use Rattle.log_lines.proofs.Lines.{lines-joined, lines-cut-at-ends, cut-first}
+use Rattle.log.specs.Answer.{refusalLine, answerTo, answersTo, answerOf, AllReadable}
 
 -- ---- a line
 

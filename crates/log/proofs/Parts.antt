@@ -11,8 +11,8 @@ use borrow.Author.Tests.{eq-eqb, ne-eqb, eqb-true}
 use Rattle.reader.specs.Line.{lineNumber}
 use Rattle.reader.proofs.LineNumbers.{lone-end-number, readable-bytes}
 use Rattle.log_lines.specs.Lines.{isEnd, ahead, linesOf, joined, endedLine, unendedPiece, cutAtEnds, endsWithEnd}
-use Rattle.log.specs.Answer.{refusalLine, answerTo, answersTo, answerOf}
 use Rattle.log_lines.proofs.Lines.{lines-first, ended-cut, unended-alone, lines-are-the-only-ones}
+use Rattle.log.specs.Answer.{refusalLine, answerTo, answersTo, answerOf}
 use Rattle.log.proofs.LineByLine.{answer-none, answer-unended}
 
 -- ---- a log that is cut behind a line end

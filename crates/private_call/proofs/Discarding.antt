@@ -15,11 +15,11 @@ use Rattle.private_record.specs.declared.states.State.{State}
 use Rattle.private_record.specs.declared.states.Timers.{Timers}
 use Rattle.private_record.specs.declared.states.Phase.{Phase}
 use Rattle.private_record.specs.declared.states.PrivateRecord.{PrivateRecord}
+use Rattle.private_record.specs.declared.rows.Row.the-variants.{Discard}
 use Rattle.private_record.proofs.WellFormed.{same-timers, Fit}
 use Rattle.private_rows.specs.Causes.{causeOf, factsOf}
 use Rattle.private_rows.specs.Rows.{rowOf}
 use Rattle.private_rows.specs.declared.causes.Cause.{Cause}
-use Rattle.private_record.specs.declared.rows.Row.the-variants.{Discard}
 use Rattle.private_effects.specs.Effects.{effectOf}
 use Rattle.private_carried.specs.Carried.{ranOut, changes, startedOf, stoppedOf, runningAfter, counterAfter, countersAfter, startedBy, stoppedBy, runningBy, carryOut}
 use Rattle.private_carried.specs.declared.Carried.{Carried}

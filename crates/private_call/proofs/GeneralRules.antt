@@ -12,9 +12,9 @@ use Rattle.call.proofs.Timing.{change-stops-one, spares-one}
 use Rattle.private_record.specs.Phases.{stateNumber, has}
 use Rattle.private_record.specs.declared.states.Timers.{Timers}
 use Rattle.private_record.specs.declared.states.PrivateRecord.{PrivateRecord}
+use Rattle.private_record.specs.declared.rows.Row.{Row}
 use Rattle.private_record.proofs.WellFormed.{has-set}
 use Rattle.private_rows.specs.Rows.{rowOf}
-use Rattle.private_record.specs.declared.rows.Row.{Row}
 use Rattle.private_effects.specs.Effects.{effectOf}
 use Rattle.private_effects.specs.declared.Effect.{Effect}
 use Rattle.private_carried.specs.Carried.{ranOut, changes, startedOf, stoppedOf, countersAfter, startedBy, carryOut}

@@ -22,11 +22,11 @@ use Rattle.private_record.specs.declared.states.Timers.{Timers}
 use Rattle.private_record.specs.declared.states.Phase.{Phase}
 use Rattle.private_record.specs.declared.states.PrivateCall.{PrivateCall}
 use Rattle.private_record.specs.declared.states.PrivateRecord.{PrivateRecord}
+use Rattle.private_record.specs.declared.rows.Row.{Row}
 use Rattle.private_record.proofs.WellFormed.{Fit, fit}
 use Rattle.private_rows.specs.Causes.{causeOf, factsOf}
 use Rattle.private_rows.specs.Rows.{rowOf}
 use Rattle.private_rows.specs.declared.causes.Cause.{Cause}
-use Rattle.private_record.specs.declared.rows.Row.{Row}
 use Rattle.private_effects.specs.Effects.{effectOf}
 use Rattle.private_effects.specs.declared.Hold.{Hold}
 use Rattle.private_effects.specs.declared.Reason.{Reason}

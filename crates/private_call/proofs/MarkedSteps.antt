@@ -23,13 +23,13 @@ use Rattle.private_record.specs.declared.states.State.{State}
 use Rattle.private_record.specs.declared.states.Phase.{Phase}
 use Rattle.private_record.specs.declared.states.Timers.{Timers}
 use Rattle.private_record.specs.declared.states.PrivateRecord.{PrivateRecord}
+use Rattle.private_record.specs.declared.rows.Row.{Row}
+use Rattle.private_record.specs.declared.rows.Row.the-variants.{Discard, R3, R23}
 use Rattle.private_record.proofs.WellFormed.{Fit, fit}
 use Rattle.private_rows.specs.Causes.{causeOf, factsOf}
 use Rattle.private_rows.specs.Rows.{rowNumber, runs, rowIn, rowOf}
 use Rattle.private_rows.specs.declared.causes.Cause.{Cause}
 use Rattle.private_rows.specs.declared.causes.Facts.{Facts}
-use Rattle.private_record.specs.declared.rows.Row.{Row}
-use Rattle.private_record.specs.declared.rows.Row.the-variants.{Discard, R3, R23}
 use Rattle.private_rows.proofs.Meets.{same-row, found-is-met, quiet-expiry}
 use Rattle.private_effects.specs.Effects.{effectOf}
 use Rattle.private_carried.specs.Carried.{startedOf, stoppedOf, runningAfter, runningBy, carryOut}

@@ -19,9 +19,9 @@ use Rattle.private_record.specs.declared.states.State.{State}
 use Rattle.private_record.specs.declared.states.Timers.{Timers}
 use Rattle.private_record.specs.declared.states.PrivateCall.{PrivateCall}
 use Rattle.private_record.specs.declared.states.PrivateRecord.{PrivateRecord}
+use Rattle.private_record.specs.declared.rows.Row.{Row}
 use Rattle.private_record.proofs.WellFormed.{fit}
 use Rattle.private_rows.specs.Rows.{rowNumber}
-use Rattle.private_record.specs.declared.rows.Row.{Row}
 use Rattle.private_carried.specs.Carried.{startedOf, runningAfter, countersAfter, carryOut}
 use Rattle.private_call.specs.Step.{stepLine, stepOf}
 use Rattle.private_call.specs.Running.{expiry, runPrivate, sentPrivate}

@@ -9,10 +9,10 @@ use Rattle.private_record.specs.Formed.{runningGood, roleGood}
 use Rattle.private_record.specs.declared.states.State.{State}
 use Rattle.private_record.specs.declared.states.Phase.{Phase}
 use Rattle.private_record.specs.declared.states.Timers.{Timers}
+use Rattle.private_record.specs.declared.rows.Row.{Row}
 use Rattle.private_rows.specs.Rows.{rowNumber, sameCause, rowIn}
 use Rattle.private_rows.specs.declared.causes.Cause.{Cause}
 use Rattle.private_rows.specs.declared.causes.Facts.{Facts}
-use Rattle.private_record.specs.declared.rows.Row.{Row}
 use Rattle.private_rows.proofs.Meets.{each-row}
 use Rattle.private_effects.specs.Effects.{effectOf}
 use Rattle.private_effects.specs.declared.Hold.{Hold}

@@ -17,10 +17,10 @@ use Rattle.stepping.proofs.Stepping as stepping
 use Rattle.stepping.proofs.Answers.{by-cases}
 use Rattle.private_record.specs.Formed.{wellFormed}
 use Rattle.private_record.specs.declared.states.PrivateRecord.{PrivateRecord}
-use Rattle.private_record.proofs.WellFormed.{fit}
-use Rattle.private_rows.specs.Rows.{rowNumber, rowOf}
 use Rattle.private_record.specs.declared.rows.Row.{Row}
 use Rattle.private_record.specs.declared.rows.Row.the-variants.{Discard}
+use Rattle.private_record.proofs.WellFormed.{fit}
+use Rattle.private_rows.specs.Rows.{rowNumber, rowOf}
 use Rattle.private_rows.proofs.Meets.{same-row}
 use Rattle.private_carried.specs.Carried.{ranOut, runningAfter, carryOut}
 use Rattle.private_carried.specs.declared.Carried.{Carried}

@@ -14,9 +14,9 @@ use Rattle.stepping.specs.Sending.{lineSent, numberSending}
 use Rattle.private_record.specs.Phases.{noTimer}
 use Rattle.private_record.specs.Formed.{wellFormed}
 use Rattle.private_record.specs.declared.states.PrivateRecord.{PrivateRecord}
+use Rattle.private_record.specs.declared.rows.Row.{Row}
 use Rattle.private_rows.specs.Causes.{sameIdentifier}
 use Rattle.private_rows.specs.Rows.{rowNumber, rowOf}
-use Rattle.private_record.specs.declared.rows.Row.{Row}
 use Rattle.private_carried.specs.Carried.{carryOut}
 use Rattle.private_carried.specs.declared.Carried.{Carried}
 use Rattle.private_call.specs.declared.Stepped.{Stepped}

@@ -1,5 +1,6 @@
 // What carrying out a row of the private call machine gives.
 mod settled;
+mod timers;
 
 ghost use mathlib.Core.Path.{_≡_};
 ghost use Rattle.private_carried.specs.Carried.{carryOut};
@@ -39,10 +40,10 @@ pub fn carry_out(settings: Settings, stored: PrivateRecord, input: Input, row: R
     let say = effect.say;
     let request = request_of(settings, event);
     let other = request.parties;
-    let out = settled::ran_out(event);
-    let started = settled::started(state, to, start);
-    let stopped = settled::stopped(settled::state_changes(state, to), asked, was, started, out);
-    let running = settled::running_after(was, stopped, out, started);
+    let out = timers::ran_out(event);
+    let started = timers::started(state, to, start);
+    let stopped = timers::stopped(timers::state_changes(state, to), asked, was, started, out);
+    let running = timers::running_after(was, stopped, out, started);
     let held = settled::held(hold, call, request, media);
     Carried {
         next: PrivateRecord {

@@ -10,7 +10,6 @@ use Rattle.frame.specs.declared.Media.{Media}
 use Rattle.frame.specs.declared.Message.the-variants.{Announcement}
 use Rattle.call.specs.Settings.{settingsGood}
 use Rattle.call.specs.Request.{asMessage, startRequest}
-use Rattle.announced.specs.Announced.{startedGroupCall}
 use Rattle.call.specs.declared.Settings.{Settings}
 use Rattle.call.specs.declared.PrivateStart.{PrivateStart}
 use Rattle.call.specs.declared.PrivateAction.{PrivateAction}
@@ -20,6 +19,7 @@ use Rattle.call.specs.declared.GroupAction.{GroupAction}
 use Rattle.call.specs.declared.Action.{Action}
 use Rattle.call.specs.declared.Event.{Event}
 use Rattle.call.specs.declared.Input.{Input}
+use Rattle.announced.specs.Announced.{startedGroupCall}
 
 -- a message's fields are in range; other events have none
 abbrev pub heardGood : Event → Media → Bool

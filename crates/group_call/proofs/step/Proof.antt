@@ -6,8 +6,8 @@ use Rattle.writer.specs.declared.Written.{Written}
 use Rattle.step_numbers.specs.Numbers.{numberBeforeRow}
 use Rattle.stepping.specs.Sending.{sendTold, sendBuffer}
 use Rattle.group_record.specs.Formed.{wellFormed}
-use Rattle.group_rows.specs.Rows.{rowNumber, rowOf}
 use Rattle.group_record.specs.declared.rows.Row.{Row}
+use Rattle.group_rows.specs.Rows.{rowNumber, rowOf}
 use Rattle.group_carried.specs.Carried.{carryOut}
 use Rattle.group_carried.specs.declared.Carried.{Carried}
 use Rattle.group_call.specs.Step.{changeTooEarly, doneOf, refusedOf, movedOf}

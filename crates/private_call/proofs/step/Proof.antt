@@ -6,8 +6,8 @@ use Rattle.writer.specs.declared.Written.{Written}
 use Rattle.step_numbers.specs.Numbers.{numberBeforeRow}
 use Rattle.stepping.specs.Sending.{sendTold, sendBuffer}
 use Rattle.private_record.specs.Formed.{wellFormed}
-use Rattle.private_rows.specs.Rows.{rowNumber, rowOf}
 use Rattle.private_record.specs.declared.rows.Row.{Row}
+use Rattle.private_rows.specs.Rows.{rowNumber, rowOf}
 use Rattle.private_carried.specs.Carried.{carryOut}
 use Rattle.private_carried.specs.declared.Carried.{Carried}
 use Rattle.private_call.specs.Step.{identifierTaken, doneOf, refusedOf, movedOf}

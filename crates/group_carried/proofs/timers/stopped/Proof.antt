@@ -1,8 +1,8 @@
--- `group_carried::settled::stopped` meets its contract. Assumes nothing.
+-- `group_carried::timers::stopped` meets its contract. Assumes nothing.
 use Rattle.group_carried.specs.Carried.{stoppedOf}
 use borrow.Author.Needs.{needs}
-use Rattle.group_carried.proofs.settled.stopped.Statement.{statement}
-use Rattle.group_carried.proofs.settled.stopped.Tie as tie
+use Rattle.group_carried.proofs.timers.stopped.Statement.{statement}
+use Rattle.group_carried.proofs.timers.stopped.Tie as tie
 
 pub stopped-spec : {M : Type 1} → statement M
 unfolding stoppedOf

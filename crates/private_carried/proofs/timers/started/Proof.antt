@@ -1,8 +1,8 @@
--- `private_carried::settled::started` meets its contract. Assumes nothing.
+-- `private_carried::timers::started` meets its contract. Assumes nothing.
 use Rattle.private_carried.specs.Carried.{startedOf}
 use borrow.Author.Needs.{needs}
-use Rattle.private_carried.proofs.settled.started.Statement.{statement}
-use Rattle.private_carried.proofs.settled.started.Tie as tie
+use Rattle.private_carried.proofs.timers.started.Statement.{statement}
+use Rattle.private_carried.proofs.timers.started.Tie as tie
 
 pub started-spec : {M : Type 1} → statement M
 unfolding startedOf

@@ -1,7 +1,7 @@
--- `group_carried::settled::ran_out` meets its contract. Assumes nothing.
+-- `private_carried::timers::ran_out` meets its contract. Assumes nothing.
 use borrow.Author.Needs.{needs}
-use Rattle.group_carried.proofs.settled.ran_out.Statement.{statement}
-use Rattle.group_carried.proofs.settled.ran_out.Tie as tie
+use Rattle.private_carried.proofs.timers.ran_out.Statement.{statement}
+use Rattle.private_carried.proofs.timers.ran_out.Tie as tie
 
 pub ran-out-spec : {M : Type 1} → statement M
 ran-out-spec =

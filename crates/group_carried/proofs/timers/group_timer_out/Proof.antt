@@ -1,7 +1,7 @@
--- `group_carried::settled::group_timer_out` meets its contract. Assumes nothing.
+-- `group_carried::timers::group_timer_out` meets its contract. Assumes nothing.
 use borrow.Author.Needs.{needs}
-use Rattle.group_carried.proofs.settled.group_timer_out.Statement.{statement}
-use Rattle.group_carried.proofs.settled.group_timer_out.Tie as tie
+use Rattle.group_carried.proofs.timers.group_timer_out.Statement.{statement}
+use Rattle.group_carried.proofs.timers.group_timer_out.Tie as tie
 
 pub group-timer-out-spec : {M : Type 1} → statement M
 group-timer-out-spec =

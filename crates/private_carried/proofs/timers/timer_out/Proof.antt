@@ -1,7 +1,7 @@
--- `private_carried::settled::timer_out` meets its contract. Assumes nothing.
+-- `private_carried::timers::timer_out` meets its contract. Assumes nothing.
 use borrow.Author.Needs.{needs}
-use Rattle.private_carried.proofs.settled.timer_out.Statement.{statement}
-use Rattle.private_carried.proofs.settled.timer_out.Tie as tie
+use Rattle.private_carried.proofs.timers.timer_out.Statement.{statement}
+use Rattle.private_carried.proofs.timers.timer_out.Tie as tie
 
 pub timer-out-spec : {M : Type 1} → statement M
 timer-out-spec =

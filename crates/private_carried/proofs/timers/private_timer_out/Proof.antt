@@ -1,7 +1,7 @@
--- `private_carried::settled::private_timer_out` meets its contract. Assumes nothing.
+-- `private_carried::timers::private_timer_out` meets its contract. Assumes nothing.
 use borrow.Author.Needs.{needs}
-use Rattle.private_carried.proofs.settled.private_timer_out.Statement.{statement}
-use Rattle.private_carried.proofs.settled.private_timer_out.Tie as tie
+use Rattle.private_carried.proofs.timers.private_timer_out.Statement.{statement}
+use Rattle.private_carried.proofs.timers.private_timer_out.Tie as tie
 
 pub private-timer-out-spec : {M : Type 1} → statement M
 private-timer-out-spec =

@@ -1,8 +1,8 @@
--- `private_carried::settled::running_after` meets its contract. Assumes nothing.
+-- `private_carried::timers::running_after` meets its contract. Assumes nothing.
 use Rattle.private_carried.specs.Carried.{runningAfter}
 use borrow.Author.Needs.{needs}
-use Rattle.private_carried.proofs.settled.running_after.Statement.{statement}
-use Rattle.private_carried.proofs.settled.running_after.Tie as tie
+use Rattle.private_carried.proofs.timers.running_after.Statement.{statement}
+use Rattle.private_carried.proofs.timers.running_after.Tie as tie
 
 pub running-after-spec : {M : Type 1} → statement M
 unfolding runningAfter

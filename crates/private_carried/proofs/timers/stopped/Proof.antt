@@ -1,8 +1,8 @@
--- `private_carried::settled::stopped` meets its contract. Assumes nothing.
+-- `private_carried::timers::stopped` meets its contract. Assumes nothing.
 use Rattle.private_carried.specs.Carried.{stoppedOf}
 use borrow.Author.Needs.{needs}
-use Rattle.private_carried.proofs.settled.stopped.Statement.{statement}
-use Rattle.private_carried.proofs.settled.stopped.Tie as tie
+use Rattle.private_carried.proofs.timers.stopped.Statement.{statement}
+use Rattle.private_carried.proofs.timers.stopped.Tie as tie
 
 pub stopped-spec : {M : Type 1} → statement M
 unfolding stoppedOf

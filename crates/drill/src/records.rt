@@ -174,18 +174,26 @@ pub(crate) fn private_numbers(told: PrivateRecord) -> [u64; 16] {
     let running = told.running;
     let counters = told.counters;
     let call = told.call;
-    let mut numbers = private_timer_numbers(running);
-    numbers[0] = private_place(state);
-    numbers[7] = counters.cfp1 as u64;
-    numbers[8] = counters.cfp3 as u64;
-    numbers[9] = counters.cfp4 as u64;
-    numbers[10] = call.parties.identifier as u64;
-    numbers[11] = call.parties.caller as u64;
-    numbers[12] = call.parties.callee as u64;
-    numbers[13] = call.commencement as u64;
-    numbers[14] = call.media.number as u64;
-    numbers[15] = call.pck_id as u64;
-    numbers
+    let parties = call.parties;
+    let media = call.media;
+    [
+        private_place(state),
+        bit(running.tfp1),
+        bit(running.tfp2),
+        bit(running.tfp3),
+        bit(running.tfp4),
+        bit(running.tfp5),
+        bit(running.tfp7),
+        counters.cfp1 as u64,
+        counters.cfp3 as u64,
+        counters.cfp4 as u64,
+        parties.identifier as u64,
+        parties.caller as u64,
+        parties.callee as u64,
+        call.commencement as u64,
+        media.number as u64,
+        call.pck_id as u64,
+    ]
 }
 
 // The place of a state in the list of group states.
@@ -226,16 +234,22 @@ pub(crate) fn group_numbers(told: GroupRecord) -> [u64; 16] {
     let running = told.running;
     let call = told.call;
     let media = told.media;
-    let mut numbers = group_timer_numbers(running);
-    numbers[0] = group_place(state);
-    numbers[4] = call.group as u64;
-    numbers[5] = call.identifier as u64;
-    numbers[6] = call.call_type as u64;
-    numbers[7] = call.refresh as u64;
-    numbers[8] = media.number as u64;
-    numbers[9] = call.originator as u64;
-    numbers[10] = call.start as u64;
-    numbers[11] = call.last_change as u64;
-    numbers[12] = call.last_changer as u64;
-    numbers
+    [
+        group_place(state),
+        bit(running.tfg2),
+        bit(running.tfg4),
+        bit(running.tfg6),
+        call.group as u64,
+        call.identifier as u64,
+        call.call_type as u64,
+        call.refresh as u64,
+        media.number as u64,
+        call.originator as u64,
+        call.start as u64,
+        call.last_change as u64,
+        call.last_changer as u64,
+        0,
+        0,
+        0,
+    ]
 }

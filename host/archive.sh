@@ -4,6 +4,7 @@
 # module for the machine at hand; such an archive goes to FOLDER alone, and target/staticlib is left as it was.
 set -u
 root=$(cd "$(dirname "${BASH_SOURCE[0]}")/.." && pwd -P) || exit 2
+. "$root/host/state.sh"
 
 # Says one line on standard error and gives up.
 fail() {
@@ -21,12 +22,6 @@ rt=$(command -v rt) || fail "rt, the command of the Rattle kit, is not on the PA
 kit=${RATTLE_HOME:-$(dirname "$(dirname "$(readlink -f "$rt")")")}
 machine=$(uname -m)
 made=target/staticlib/lib$name.a
-
-# Prints one word for all that an archive is made from: the kit, this script and the crates.
-state() {
-    { cat "$kit/KIT-ID" host/archive.sh crates.txt && find crates -type f -print0 | sort -z | xargs -0 sha256sum; } 2>/dev/null |
-        sha256sum | cut -d ' ' -f 1
-}
 
 # Links all that the first folder has into the second, but for the names behind.
 link_all() {
@@ -77,7 +72,7 @@ make() {
     env ${1:+"RATTLE_HOME=$1"} bash host/alone.sh "$rt" staticlib "$name" </dev/null >/dev/null 2>&1 && [ -f "$made" ]
 }
 
-now=$(state)
+now=$(state host/archive.sh)
 if [ -f "$folder/lib$name.a" ] && [ "$(cat "$folder/lib$name.state" 2>/dev/null)" = "$now" ]; then
     exit 0
 fi

@@ -10,6 +10,7 @@ if [ "${1-}" = --command ]; then
 fi
 name=${1-}
 root=$(cd "$(dirname "${BASH_SOURCE[0]}")/.." && pwd -P) || exit 2
+. "$root/host/state.sh"
 
 # Says one line on standard error and gives up.
 fail() {
@@ -27,12 +28,16 @@ emulator=$tools/bin/qemu-x86_64
 program=$root/target/bin/$name
 [ -e "$loader" ] || fail "the Rattle kit has no loader where it should have one: set RATTLE_HOME to the kit's folder"
 
-# rt takes less than a second to see that nothing has changed, but it does not look for the program itself.
+# Where nothing has changed rt is not asked: it may be busy. It does not look for the program itself.
+now=$(cd "$root" && state)
 if [ ! -x "$program" ]; then
-    rm -f "$root/target/stamp/$name"
+    rm -f "$root/target/stamp/$name" "$program.state"
     echo "$name: proving and building it first: a few minutes, once" >&2
 fi
-bash "$root/host/alone.sh" "$rt" check "$name" </dev/null >/dev/null 2>&1 || fail "not proved or not built: rt check $name says why"
+if [ "$(cat "$program.state" 2>/dev/null)" != "$now" ]; then
+    bash "$root/host/alone.sh" "$rt" check "$name" </dev/null >/dev/null 2>&1 || fail "not proved or not built: rt check $name says why"
+    echo "$now" >"$program.state" || fail "target/bin cannot be written"
+fi
 
 command=("$loader" --library-path "$tools/lib" "$program")
 [ ! -x "$emulator" ] || command=("$emulator" "${command[@]}")

@@ -13,6 +13,23 @@ verdict "the program is proved and built" "$(cat "$room/said")"
 # Without it there is nothing to try.
 [ $status -eq 0 ] || exit $status
 
+# Somebody else has rt, for longer than the program is waited for.
+flock -o target/.alone sleep 5 &
+busy=$!
+sleep 0.2
+timeout 2 bash host/program.sh --command drill >"$room/wrote" 2>"$room/said" </dev/null
+ended=$?
+kill $busy
+printf '%s\n' "${drill[@]}" >"$room/wanted"
+judge "a program that nothing has changed for does not wait for rt" $ended
+
+cp target/bin/drill.state "$room/wanted"
+echo another >target/bin/drill.state
+bash host/program.sh --command drill >/dev/null 2>"$room/said" </dev/null
+ended=$?
+cp target/bin/drill.state "$room/wrote"
+judge "a program of another state is looked at by rt again" $ended
+
 # Plays the script $room/given.
 play() { "${drill[@]}" <"$room/given" >"$room/wrote" 2>"$room/said"; }
 

@@ -1,7 +1,9 @@
 -- A test that is computed for every phase, cause and set of facts, and what it shows of each. Assumes nothing.
+use Prim.Native.Nat.{ℕ}
 use mathlib.Core.Path.{_≡_, refl, subst}
 use mathlib.Core.List.{List, [], _∷_}
 use mathlib.Core.Bool.{Bool, true}
+use lib.ListN.{getD, set}
 use Rattle.call.specs.declared.PrivateTimer.{PrivateTimer}
 use Rattle.call.proofs.Laws.{each, nth, bothBools, at-bool}
 use Rattle.private_record.specs.declared.states.Phase.{Phase}
@@ -91,39 +93,54 @@ at-cause q t Cause.Other = nth (causeTests q) 17 t
 
 -- ---- the facts
 
--- one of the facts: its Bool, the facts with another Bool in its place, and that its own Bool there changes nothing
+-- the facts as Bools
+abbrev bools : Facts → List Bool
+bools x = x .same ∷ x .media ∷ x .manual ∷ x .trusted ∷ x .«own_caller» ∷ x .under ∷ []
+
+-- and back
+abbrev ofBools : List Bool → Facts
+ofBools bs =
+    record {
+      same = getD bs 0 true;
+      media = getD bs 1 true;
+      manual = getD bs 2 true;
+      trusted = getD bs 3 true;
+      «own_caller» = getD bs 4 true;
+      under = getD bs 5 true;
+    }
+
+-- the facts with another Bool at a place
+abbrev put : ℕ → Facts → Bool → Facts
+put k x b = ofBools (set (bools x) k b)
+
+-- a fact by its place: its own Bool there changes nothing
 record Fact : Type 0 where
-  bool : Facts → Bool
-  put : Facts → Bool → Facts
-  kept : (x : Facts) → put x (bool x) ≡ x
+  place : ℕ
+  kept : (x : Facts) → put place x (getD (bools x) place true) ≡ x
 
--- facts by their Bools
-abbrev facts : Bool → Bool → Bool → Bool → Bool → Bool → Facts
-facts same media manual trusted own under = record { same = same; media = media; manual = manual; trusted = trusted; «own_caller» = own; under = under }
-
--- whether the message is the same
+-- the message is the same
 abbrev sameFact : Fact
-sameFact = record { bool = λ x. x .same; put = λ x b. facts b (x .media) (x .manual) (x .trusted) (x .«own_caller») (x .under); kept = λ x. refl }
+sameFact = record { place = 0; kept = λ x. refl }
 
--- whether media can be set up
+-- media can be set up
 abbrev mediaFact : Fact
-mediaFact = record { bool = λ x. x .media; put = λ x b. facts (x .same) b (x .manual) (x .trusted) (x .«own_caller») (x .under); kept = λ x. refl }
+mediaFact = record { place = 1; kept = λ x. refl }
 
--- whether the commencement is manual
+-- the commencement is manual
 abbrev manualFact : Fact
-manualFact = record { bool = λ x. x .manual; put = λ x b. facts (x .same) (x .media) b (x .trusted) (x .«own_caller») (x .under); kept = λ x. refl }
+manualFact = record { place = 2; kept = λ x. refl }
 
--- whether there is no PCK-ID, or a good signature
+-- there is no PCK-ID, or the signature is good
 abbrev trustedFact : Fact
-trustedFact = record { bool = λ x. x .trusted; put = λ x b. facts (x .same) (x .media) (x .manual) b (x .«own_caller») (x .under); kept = λ x. refl }
+trustedFact = record { place = 3; kept = λ x. refl }
 
--- whether the caller is own
+-- the caller is own
 abbrev ownFact : Fact
-ownFact = record { bool = λ x. x .«own_caller»; put = λ x b. facts (x .same) (x .media) (x .manual) (x .trusted) b (x .under); kept = λ x. refl }
+ownFact = record { place = 4; kept = λ x. refl }
 
--- whether the counter is under its limit
+-- the counter is under its limit
 abbrev underFact : Fact
-underFact = record { bool = λ x. x .under; put = λ x b. facts (x .same) (x .media) (x .manual) (x .trusted) (x .«own_caller») b; kept = λ x. refl }
+underFact = record { place = 5; kept = λ x. refl }
 
 -- the facts that the rows of a cause look at: a test need not be computed for both Bools of any other
 abbrev lookedAt : Cause → List Fact
@@ -149,13 +166,13 @@ lookedAt Cause.Other = []
 -- of both Bools of each of these facts, the others being as they are
 abbrev bothOf : List Fact → (Facts → Bool) → Facts → Bool
 bothOf [] q x = q x
-bothOf (k ∷ ks) q x = bothBools (λ b. bothOf ks q (k .put x b))
+bothOf (k ∷ ks) q x = bothBools (λ b. bothOf ks q (put (k .place) x b))
 
 -- of one
 at-facts : (ks : List Fact) (q : Facts → Bool) → ((x : Facts) → bothOf ks q x ≡ true) → (x : Facts) → q x ≡ true
 at-facts [] q t x = t x
 at-facts (k ∷ ks) q t x =
-    at-facts ks q (λ y. subst (λ z. bothOf ks q z ≡ true) (k .kept y) (at-bool (λ b. bothOf ks q (k .put y b)) (t y) (k .bool y))) x
+    at-facts ks q (λ y. subst (λ z. bothOf ks q z ≡ true) (k .kept y) (at-bool (λ b. bothOf ks q (put (k .place) y b)) (t y) (getD (bools y) (k .place) true))) x
 
 -- a test of everything, whatever the facts are that a cause does not look at
 abbrev pub everywhere : (Phase → Cause → Facts → Bool) → Facts → Bool

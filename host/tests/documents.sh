@@ -39,7 +39,7 @@ verdict "every folder of crates/ is listed in crates.txt" "$wrong"
 # Prints what each crate stands on, NAME: A, B, by crates.txt; what the kit brings is not told.
 stands_on() { sed -E 's/#.*//; /^ *$/d; s/ (bytes|io|libc)\b//g; s/: */: /; s/([a-z_]) ([a-z_])/\1, \2/g' crates.txt | sort; }
 
-# Prints the same by the map of README.md, but for the crates of which it says `all the libraries above`.
+# Prints the same by the map of README.md, which has words for demands and promises: these are not compared.
 mapped() { sed -nE 's/^\| \[([a-z_]+)\]\(crates\/[a-z_]+\) \|.*\| ?([^|]*) \|$/\1: \2/p' README.md | sort; }
 wrong=$({ diff <(listed | sort) <(mapped | cut -d : -f 1) && diff <(stands_on) <(mapped) | grep -vE '^[<>] (demands|promises): '; } |
     grep '^[<>]' | paste -s -d ';')

@@ -1,9 +1,11 @@
-// What the private and the group machine share: settings, timers, actions, events, what is sent; and the setup request
-// that an event brings.
-pub mod requests;
+// What the private and the group machine share: settings, timers and what becomes of them, actions, events, what is
+// sent; and the setup request that an event brings.
+mod requests;
+pub mod timers;
 
 ghost use mathlib.Core.Path.{_≡_};
-ghost use Rattle.call.specs.Request.{requestOf};
+ghost use Rattle.call.specs.Request.{privateRequest, requestOf};
+ghost use Rattle.call.specs.Settings.{restricted as restrictedBy};
 use frame::Media;
 use frame::Message;
 use frame::Parties;
@@ -17,7 +19,7 @@ pub struct Counters {
 }
 
 impl Counters {
-    // The least limit of a counter.
+    // What a counter begins with, its least value while it counts, and its least limit.
     pub const LEAST: u8 = 1;
 
     // The largest limit of a counter.
@@ -38,6 +40,15 @@ pub struct Settings {
     pub restrict: bool,
     pub acknowledgement: bool,
     pub limits: Counters,
+}
+
+impl Settings {
+    // Whether the reason of a reject is kept back.
+    pub fn restricted(self) -> bool
+        ensures { λ r. ⌜ r ≡ restrictedBy self ⌝ }
+    {
+        self.restrict
+    }
 }
 
 // What the host finds out: whether media can be set up, and whether the signature is good.
@@ -151,6 +162,20 @@ impl Request {
             pck_id: 0,
         },
     };
+
+    // The setup request of a private call.
+    pub fn private(parties: Parties, commencement: u8, pck_id: u32) -> Request
+        ensures { λ r. ⌜ r ≡ privateRequest parties commencement «pck_id» ⌝ }
+    {
+        Request {
+            parties: parties,
+            setup: Setup {
+                commencement: commencement,
+                call_type: Setup::PRIVATE,
+                pck_id: pck_id,
+            },
+        }
+    }
 }
 
 // The setup request that an event brings: the one received, or the one that the user's start makes.

@@ -1,7 +1,6 @@
 // The setup request that an event brings.
 ghost use mathlib.Core.Path.{_≡_};
-ghost use Rattle.call.specs.Request.{privateRequest, startRequest, privateActionRequest};
-ghost use Rattle.call.specs.Request.{actionRequest, messageRequest};
+ghost use Rattle.call.specs.Request.{startRequest, privateActionRequest, actionRequest, messageRequest};
 use crate::Action;
 use crate::PrivateAction;
 use crate::PrivateStart;
@@ -9,27 +8,12 @@ use crate::Request;
 use crate::Settings;
 use frame::Message;
 use frame::Parties;
-use frame::Setup;
-
-// The setup request of a private call.
-pub fn private_request(parties: Parties, commencement: u8, pck_id: u32) -> Request
-    ensures { λ r. ⌜ r ≡ privateRequest parties commencement «pck_id» ⌝ }
-{
-    Request {
-        parties: parties,
-        setup: Setup {
-            commencement: commencement,
-            call_type: Setup::PRIVATE,
-            pck_id: pck_id,
-        },
-    }
-}
 
 // The setup request that the user's start makes.
 fn start_request(settings: Settings, start: PrivateStart) -> Request
     ensures { λ r. ⌜ r ≡ startRequest settings start ⌝ }
 {
-    private_request(
+    Request::private(
         Parties {
             identifier: start.identifier,
             caller: settings.own_user,

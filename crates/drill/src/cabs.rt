@@ -129,13 +129,15 @@ fn begin(cabs: [u64; BOTH], cab: usize, user: u64) -> [u64; BOTH] {
     set_all(cabs, cab, SETTINGS, 8, begun)
 }
 
-// The shift at the start, and whether what is told ahead of it could be written.
-pub(crate) fn begun(written: bool) -> Shift {
-    let cabs = [0u64; BOTH];
-    Shift {
-        cabs: begin(begin(cabs, 0, 1), 1, 2),
-        sent: [0u8; BOTH_LINES],
-        written: written,
+impl Shift {
+    // The shift at the start, and whether what is told ahead of it could be written.
+    pub(crate) fn begun(written: bool) -> Shift {
+        let cabs = [0u64; BOTH];
+        Shift {
+            cabs: begin(begin(cabs, 0, 1), 1, 2),
+            sent: [0u8; BOTH_LINES],
+            written: written,
+        }
     }
 }
 

@@ -1,5 +1,5 @@
 // What can be wrong with a command, and how it is told: each complaint is the number of its line in one text.
-use crate::text::empty;
+use crate::text::Line;
 use crate::text::put_number;
 use crate::text::put_text;
 use crate::text::say;
@@ -80,7 +80,7 @@ fn column(at: usize) -> u64 {
 // Tells what is wrong with the command of this number, at a place of its line; whether that could be written.
 pub(crate) fn complain(command: usize, complaint: usize, place: usize) -> bool {
     let words = WORDS;
-    let mut line = put_number(put_text(empty(), b"! line "), command as u64);
+    let mut line = put_number(put_text(Line::empty(), b"! line "), command as u64);
     line = put_number(put_text(line, b", column "), column(place));
     line = put_text(line, b": ");
     say(put_text(line, nth_line(&words, complaint)))

@@ -14,7 +14,7 @@ mod telling;
 mod text;
 mod words;
 
-use cabs::begun;
+use cabs::Shift;
 use libc::STDERR_FILENO;
 use libc::STDIN_FILENO;
 use libc::STDOUT_FILENO;
@@ -52,7 +52,7 @@ fn main() {
     let mut script = io::large_buffer();
     let length = io::read_full(STDIN_FILENO, &mut script);
     let cut = goes_on(length);
-    let mut shift = begun(say_fields());
+    let mut shift = Shift::begun(say_fields());
     if shift.written {
         shift = playing::play(&script[..length], cut, shift);
     }

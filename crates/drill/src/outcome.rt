@@ -5,7 +5,7 @@ use crate::cabs::PRIVATE;
 use crate::cabs::numbers_of;
 use crate::cabs::value;
 use crate::telling::tell_record;
-use crate::text::empty;
+use crate::text::Line;
 use crate::text::put_text;
 use crate::text::say;
 use crate::words::nth_line;
@@ -87,7 +87,10 @@ fn standing(
 // Tells how the calls stand to each other; whether that could be written.
 fn tell_standing(machine: &[u8], standing: usize) -> bool {
     let standings = STANDINGS;
-    say(put_text(put_text(empty(), machine), nth_line(&standings, standing)))
+    say(put_text(
+        put_text(Line::empty(), machine),
+        nth_line(&standings, standing),
+    ))
 }
 
 // Tells how a shift ends, where a cab is in a private call in P4 and in a group call in S3; whether that could be

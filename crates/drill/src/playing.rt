@@ -29,13 +29,13 @@ use crate::words::word_at;
 
 // The numbers of the cabs with the private record of a cab cleared.
 fn clear_private(cabs: [u64; BOTH], cab: usize) -> [u64; BOTH] {
-    let cleared = private_numbers(private_record::states::cleared_record());
+    let cleared = private_numbers(private_record::states::PrivateRecord::cleared());
     set_all(cabs, cab, PRIVATE, 16, cleared)
 }
 
 // The numbers of the cabs with the group record of a cab cleared.
 fn clear_group(cabs: [u64; BOTH], cab: usize) -> [u64; BOTH] {
-    let cleared = group_numbers(group_record::states::cleared_record());
+    let cleared = group_numbers(group_record::states::GroupRecord::cleared());
     set_all(cabs, cab, GROUP, 13, cleared)
 }
 

@@ -8,7 +8,6 @@ use crate::lists::PRIVATE_STATES;
 use crate::lists::either;
 use crate::lists::put_word;
 use crate::text::Line;
-use crate::text::empty;
 use crate::text::put;
 use crate::text::put_field;
 use crate::text::put_hexadecimal;
@@ -48,7 +47,7 @@ pub(crate) struct Step {
 // The first four fields: the number of a command, its cab, by its place in the list of machines who answers, and the
 // number of the answer.
 pub(crate) fn beginning(command: usize, cab: usize, machine: usize, number: u8) -> Line {
-    let mut line = put_number(empty(), command as u64);
+    let mut line = put_number(Line::empty(), command as u64);
     line = put_word(line, b' ', CABS, cab);
     line = put_word(line, b' ', MACHINES, machine);
     put_number(put(line, b' '), number as u64)
@@ -207,7 +206,7 @@ pub(crate) fn tell_step(step: Step, lent: &[u8]) -> bool {
 
 // Tells a record of a cab at the end; whether that could be written.
 pub(crate) fn tell_record(cab: usize, private: bool, numbers: [u64; 16]) -> bool {
-    let mut line = put_text(empty(), b"end");
+    let mut line = put_text(Line::empty(), b"end");
     line = put_word(line, b' ', CABS, cab);
     line = put_word(line, b' ', MACHINES, either(private, 0, 1));
     line = put_state(line, private, numbers[0]);

@@ -11,11 +11,13 @@ pub(crate) struct Line {
     pub(crate) length: usize,
 }
 
-// A line without bytes.
-pub(crate) fn empty() -> Line {
-    Line {
-        bytes: [0u8; LONGEST],
-        length: 0,
+impl Line {
+    // A line without bytes.
+    pub(crate) fn empty() -> Line {
+        Line {
+            bytes: [0u8; LONGEST],
+            length: 0,
+        }
     }
 }
 

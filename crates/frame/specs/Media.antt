@@ -1,6 +1,6 @@
 -- Media, which stands beside a message whose kind carries it: today a number of four bytes. Assumes nothing.
 use Prim.Native.Nat.{ℕ}
-use mathlib.Core.List.{List}
+use mathlib.Core.List.{List, [], _∷_}
 use mathlib.Core.Bool.{Bool}
 use lib.Dec.{eqb}
 use Rattle.frame.specs.Digits.{four, digitCount, inHex, numberAt}
@@ -18,6 +18,10 @@ mediaNone media = eqb (media .number) 0
 -- its range: never 0
 abbrev pub mediaGood : Media → Bool
 mediaGood media = neverZero four (media .number)
+
+-- its values in a line: today one
+abbrev pub mediaValues : Media → List ℕ
+mediaValues media = media .number ∷ []
 
 -- how many digits it has
 abbrev pub mediaDigits : ℕ

@@ -5,7 +5,6 @@ use crate::Media;
 use crate::Message;
 use crate::Parties;
 use crate::Setup;
-use crate::carried::media_good;
 ghost use mathlib.Core.Path.{_≡_};
 ghost use Rattle.frame.specs.Digits.{two, four};
 ghost use Rattle.frame.specs.Range.{neverZero, timeGood, flagGood, typeGood, reasonGood, pckGood};
@@ -63,39 +62,47 @@ fn pck_good(pck_id: u32) -> bool
     (pck_id == 0) | (pck_id / 0x1000_0000 == 0b0011)
 }
 
-// The fields of a private call.
-fn parties_good(p: Parties) -> bool
-    ensures { λ r. ⌜ r ≡ partiesGood p ⌝ }
-{
-    two_good(p.identifier) & (four_good(p.caller) & four_good(p.callee))
+impl Parties {
+    // The fields of a private call.
+    fn is_good(self) -> bool
+        ensures { λ r. ⌜ r ≡ partiesGood self ⌝ }
+    {
+        two_good(self.identifier) & (four_good(self.caller) & four_good(self.callee))
+    }
 }
 
-// What a setup request says besides.
-fn setup_good(s: Setup) -> bool
-    ensures { λ r. ⌜ r ≡ setupGood s ⌝ }
-{
-    flag_good(s.commencement) & (type_good(1, s.call_type) & pck_good(s.pck_id))
+impl Setup {
+    // What a setup request says besides.
+    fn is_good(self) -> bool
+        ensures { λ r. ⌜ r ≡ setupGood self ⌝ }
+    {
+        flag_good(self.commencement) & (type_good(1, self.call_type) & pck_good(self.pck_id))
+    }
 }
 
-// The fields of a group call.
-fn group_call_good(c: GroupCall) -> bool
-    ensures { λ r. ⌜ r ≡ groupCallGood c ⌝ }
-{
-    two_good(c.identifier)
-        & (four_good(c.group)
-            & (type_good(8, c.call_type)
-                & (two_good(c.refresh)
-                    & (four_good(c.originator)
-                        & (time_good(c.start)
-                            & (time_good(c.last_change) & four_good(c.last_changer)))))))
+impl GroupCall {
+    // The fields of a group call.
+    fn is_good(self) -> bool
+        ensures { λ r. ⌜ r ≡ groupCallGood self ⌝ }
+    {
+        two_good(self.identifier)
+            & (four_good(self.group)
+                & (type_good(8, self.call_type)
+                    & (two_good(self.refresh)
+                        & (four_good(self.originator)
+                            & (time_good(self.start)
+                                & (time_good(self.last_change) & four_good(self.last_changer)))))))
+    }
 }
 
-// The fields of a group call accept.
-fn acceptance_good(a: Acceptance) -> bool
-    ensures { λ r. ⌜ r ≡ acceptanceGood a ⌝ }
-{
-    two_good(a.identifier)
-        & (four_good(a.sender) & (type_good(9, a.call_type) & four_good(a.group)))
+impl Acceptance {
+    // The fields of a group call accept.
+    fn is_good(self) -> bool
+        ensures { λ r. ⌜ r ≡ acceptanceGood self ⌝ }
+    {
+        two_good(self.identifier)
+            & (four_good(self.sender) & (type_good(9, self.call_type) & four_good(self.group)))
+    }
 }
 
 // Every field of a message is in its range, and so is its media where its kind carries media.
@@ -103,16 +110,16 @@ pub fn in_range(message: Message, media: Media) -> bool
     ensures { λ r. ⌜ r ≡ inRange message media ⌝ }
 {
     match message {
-        Message::SetupRequest(p, s) => media_good(media) & (parties_good(p) & setup_good(s)),
-        Message::Ringing(p) => parties_good(p),
-        Message::Accept(p) => media_good(media) & parties_good(p),
-        Message::Reject(p, reason) => parties_good(p) & reason_good(reason),
-        Message::Release(p) => parties_good(p),
-        Message::ReleaseAck(p) => parties_good(p),
-        Message::AcceptAck(p) => parties_good(p),
+        Message::SetupRequest(p, s) => media.is_good() & (p.is_good() & s.is_good()),
+        Message::Ringing(p) => p.is_good(),
+        Message::Accept(p) => media.is_good() & p.is_good(),
+        Message::Reject(p, reason) => p.is_good() & reason_good(reason),
+        Message::Release(p) => p.is_good(),
+        Message::ReleaseAck(p) => p.is_good(),
+        Message::AcceptAck(p) => p.is_good(),
         Message::Announcement(c, confirm) => {
-            media_good(media) & (group_call_good(c) & flag_good(confirm))
+            media.is_good() & (c.is_good() & flag_good(confirm))
         }
-        Message::GroupAccept(a) => acceptance_good(a),
+        Message::GroupAccept(a) => a.is_good(),
     }
 }

@@ -23,8 +23,7 @@ use Rattle.announced.specs.declared.Announced.{Announced}
 use Rattle.step_numbers.specs.Numbers.{heardGood, argumentsGood}
 use Rattle.group_record.specs.States.{noTimer, tfg2, tfg4, tfg6}
 use Rattle.group_record.specs.declared.states.Timers.{Timers}
-use Rattle.group_rows.specs.Causes.{announcementCause, causeOf}
-use Rattle.group_rows.specs.Rows.{sameCause}
+use Rattle.group_rows.specs.Causes.{announcementCause, causeOf, sameCause}
 use Rattle.group_rows.specs.declared.causes.Cause.{Cause}
 use Rattle.group_carried.specs.Carried.{ranOut}
 use Rattle.group_call.proofs.Holding.{ranged}

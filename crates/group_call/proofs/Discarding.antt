@@ -4,9 +4,10 @@ use mathlib.Core.Bool.{Bool, false, not}
 use lib.Dec.{eqb}
 use borrow.Author.Tests.{eq-eqb}
 use Rattle.call.specs.declared.Settings.{Settings}
+use Rattle.call.specs.declared.GroupTimer.{GroupTimer}
 use Rattle.call.specs.declared.Input.{Input}
 use Rattle.call.specs.declared.Send.{Send}
-use Rattle.call.proofs.Timing.{stops-none}
+use Rattle.call.proofs.Timing.{stops-none, runs-on-one}
 use Rattle.announced.specs.Announced.{announcedOf}
 use Rattle.group_record.specs.States.{stateNumber, noTimer, runningOf}
 use Rattle.group_record.specs.declared.states.State.{State}
@@ -17,7 +18,7 @@ use Rattle.group_rows.specs.Causes.{causeOf, factsOf}
 use Rattle.group_rows.specs.Rows.{rowOf}
 use Rattle.group_rows.specs.declared.causes.Cause.{Cause}
 use Rattle.group_effects.specs.Effects.{effectOf}
-use Rattle.group_carried.specs.Carried.{ranOut, changes, stoppedOf, runningAfter, stoppedBy, runningBy, carryOut}
+use Rattle.group_carried.specs.Carried.{ranOut, changes, stoppedOf, runningAfter, timerFacts, timersBy, stoppedBy, runningBy, carryOut}
 use Rattle.group_carried.specs.declared.Carried.{Carried}
 use Rattle.group_call.proofs.Brought.{outOf, ran-out-of}
 use Rattle.group_call.proofs.Settling.{less, Sound, rows-sound}
@@ -35,16 +36,25 @@ unchanged state = ap not (eq-eqb (stateNumber state) (stateNumber state) refl)
 stops-nothing : (state : State) (confirm : Bool) (was out : Timers) → stoppedBy state was out (effectOf Discard state confirm) ≡ noTimer
 unfolding stoppedOf
 stops-nothing state confirm was out =
-    rw (unchanged state) (λ i. record {
-      tfg2 = stops-none (was .tfg2) false (out .tfg2) i;
-      tfg4 = stops-none (was .tfg4) false (out .tfg4) i;
-      tfg6 = stops-none (was .tfg6) false (out .tfg6) i;
-    })
+    let x = timerFacts (timersBy state was out (effectOf Discard state confirm)) in
+    let same = unchanged state in
+    λ i. record {
+      tfg2 = stops-none (x GroupTimer.Tfg2) refl same i;
+      tfg4 = stops-none (x GroupTimer.Tfg4) refl same i;
+      tfg6 = stops-none (x GroupTimer.Tfg6) refl same i;
+    }
 
 -- so what runs afterwards is what ran and did not run out
 runs-on : (state : State) (confirm : Bool) (was out : Timers) → runningBy state was out (effectOf Discard state confirm) ≡ less was out
 unfolding runningAfter
-runs-on state confirm was out = rw (stops-nothing state confirm was out)
+runs-on state confirm was out =
+    let x = timerFacts (timersBy state was out (effectOf Discard state confirm)) in
+    let same = unchanged state in
+    λ i. record {
+      tfg2 = runs-on-one (x GroupTimer.Tfg2) refl refl same i;
+      tfg4 = runs-on-one (x GroupTimer.Tfg4) refl refl same i;
+      tfg6 = runs-on-one (x GroupTimer.Tfg6) refl refl same i;
+    }
 
 -- in a fit record, that is what ran
 quiet-at : {f : State} {c : Cause} {confirm : Bool} {was out : Timers} → was ≡ runningOf f → out ≡ outOf c → Sound f c confirm Discard → less was out ≡ was

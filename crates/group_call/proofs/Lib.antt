@@ -5,6 +5,7 @@ pub mod Settling
 pub mod Keeping
 pub mod Discarding
 pub mod Steps
+pub mod Clearing
 pub mod GeneralRules
 pub mod Unheeded
 pub mod Merging

@@ -21,7 +21,7 @@ use Rattle.group_record.specs.declared.rows.Row.the-variants.{Discard, G1, G2, 
 use Rattle.group_rows.specs.Rows.{rowNumber, rowOf}
 use Rattle.group_effects.specs.Effects.{effectOf}
 use Rattle.group_carried.specs.Carried.{isLater, changedBy, heldOf, mediaHeld, carryOut}
-use Rattle.group_call.specs.Step.{doneOf, stepLine, stepNumber, refusedOf, movedOf, stepOf}
+use Rattle.group_call.specs.Step.{doneOf, stepLine, stepNumber, refusedOf, discarded, movedOf, answerMet, stepOf}
 
 -- a call and its media are these
 abbrev pub Is : GroupCall → Media → GroupCall → Media → Type 0
@@ -53,12 +53,20 @@ unmixed-by G11 state confirm stored own call media = go (isLater call stored)
     go true = inr (inr (inr (inr refl, (refl, refl))))
     go false = inl (refl, refl)
 
+-- after a row's answer, be it a discard
+answer-unmixed : (s : Settings) (g : GroupRecord) (i : Input) (b : Bool) → let x = cond b (discarded g) (movedOf (rowOf s g (i .event)) (doneOf s g i) (length (stepLine s g i))) in
+    Unmixed (x .row) (g .call) (g .media) (announcedOf s (i .event) .call) (i .media) (x .next .call) (x .next .media)
+unfolding carryOut
+answer-unmixed s g i true = inl (refl, refl)
+answer-unmixed s g i false =
+    unmixed-by (rowOf s g (i .event)) (g .state) (eqb (announcedOf s (i .event) .confirm) 1) (g .call) (g .media) (announcedOf s (i .event) .call) (i .media)
+
 -- after any step, refused or not
 pub no-mixture : (s : Settings) (g : GroupRecord) (i : Input) (out : List ℕ)
     → Unmixed (stepOf s g i out .row) (g .call) (g .media) (announcedOf s (i .event) .call) (i .media) (stepOf s g i out .next .call) (stepOf s g i out .next .media)
-unfolding stepOf carryOut
+unfolding stepOf
 no-mixture s g i out =
-    by-cases (stepNumber s g i out) (movedOf (rowOf s g (i .event)) (doneOf s g i) (length (stepLine s g i))) (λ n. refusedOf n g)
+    by-cases (stepNumber s g i out) (answerMet s g i) (λ n. refusedOf n g)
     (λ x. Unmixed (x .row) (g .call) (g .media) (announcedOf s (i .event) .call) (i .media) (x .next .call) (x .next .media))
-    (λ e. unmixed-by (rowOf s g (i .event)) (g .state) (eqb (announcedOf s (i .event) .confirm) 1) (g .call) (g .media) (announcedOf s (i .event) .call) (i .media))
+    (λ e. answer-unmixed s g i (eqb (rowNumber (rowOf s g (i .event))) 0))
     (λ f. inl (refl, refl))

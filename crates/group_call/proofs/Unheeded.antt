@@ -22,7 +22,8 @@ use Rattle.group_record.specs.declared.states.GroupRecord.{GroupRecord}
 use Rattle.group_record.specs.declared.rows.Row.{Row}
 use Rattle.group_record.specs.declared.rows.Row.the-variants.{Discard}
 use Rattle.group_rows.specs.Causes.{groupTimerCause, causeOf, factsOf}
-use Rattle.group_rows.specs.Rows.{rowNumber, runs, rowIn, rowOf}
+use Rattle.group_rows.specs.Asking.{runs}
+use Rattle.group_rows.specs.Rows.{rowNumber, rowIn, rowOf}
 use Rattle.group_rows.specs.declared.causes.Cause.{Cause}
 use Rattle.group_rows.specs.declared.causes.Facts.{Facts}
 use Rattle.group_rows.proofs.Meets.{found-is-met}

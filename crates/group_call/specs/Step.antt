@@ -20,27 +20,23 @@ use Rattle.group_carried.specs.Carried.{isLater, carryOut}
 use Rattle.group_carried.specs.declared.Carried.{Carried}
 use Rattle.group_call.specs.declared.Stepped.{Stepped}
 
--- ---- the number
+-- ---- the number of a step that meets a row
 
 -- 8 at G9: the row is G9, and now is not later than the stored change
 abbrev pub changeTooEarly : Settings → GroupRecord → Event → Row → Bool
 changeTooEarly s g e row = eqb (rowNumber row) 9 && not (isLater (announcedOf s e .call) (g .call))
 
 -- the number of the tests before anything is sent, in their order: 7, 9, then 5 or 8, then the 8 of G9
-abbrev pub numberBeforeSending : Settings → GroupRecord → Input → ℕ
-numberBeforeSending s g i = numberOfTests s (wellFormed s g) i (changeTooEarly s g (i .event) (rowOf s g (i .event)))
+abbrev pub testsWith : Row → Settings → GroupRecord → Input → ℕ
+testsWith row s g i = numberOfTests s (wellFormed s g) i (changeTooEarly s g (i .event) row)
 
--- what carrying out the row that is met gives
-abbrev pub doneOf : Settings → GroupRecord → Input → Carried
-doneOf s g i = carryOut s g i (rowOf s g (i .event))
+-- the line that the row sends, no bytes where it sends nothing: with the media of the next record
+abbrev pub lineWith : Row → Settings → GroupRecord → Input → List ℕ
+lineWith row s g i = lineSent (carryOut s g i row .sent) (carryOut s g i row .next .media)
 
--- the line that it sends, no bytes where it sends nothing: with the media of the next record
-abbrev pub stepLine : Settings → GroupRecord → Input → List ℕ
-stepLine s g i = lineSent (doneOf s g i .sent) (doneOf s g i .next .media)
-
--- the number of a step: that of a test, else the writer's of what is sent
-abbrev pub stepNumber : Settings → GroupRecord → Input → List ℕ → ℕ
-stepNumber s g i out = numberSending (numberBeforeSending s g i) (doneOf s g i .sent) (doneOf s g i .next .media) out
+-- the number of a step that meets this row: that of a test, else the writer's of what is sent
+abbrev pub numberWith : Row → Settings → GroupRecord → Input → List ℕ → ℕ
+numberWith row s g i out = numberSending (testsWith row s g i) (carryOut s g i row .sent) (carryOut s g i row .next .media) out
 
 -- ---- the answer
 
@@ -56,12 +52,45 @@ discarded g = refusedOf 0 g
 abbrev pub movedOf : Row → Carried → ℕ → Stepped
 movedOf row d n = record { number = 0; row = rowNumber row; next = d .next; stop = d .stop; start = d .start; length = n }
 
--- the answer of a step
-unfoldable pub stepOf : Settings → GroupRecord → Input → List ℕ → Stepped
-stepOf s g i out =
-    cond (eqb (stepNumber s g i out) 0) (movedOf (rowOf s g (i .event)) (doneOf s g i) (length (stepLine s g i)))
-    (refusedOf (stepNumber s g i out) g)
+-- what a row that is not refused answers: row 0 changes nothing, any other row is carried out
+abbrev pub answerWith : Row → Settings → GroupRecord → Input → Stepped
+answerWith row s g i = cond (eqb (rowNumber row) 0) (discarded g) (movedOf row (carryOut s g i row) (length (lineWith row s g i)))
 
--- the buffer after it
+-- the answer of a step that meets this row: the row's, or a refusal with the number
+abbrev pub stepWith : Row → Settings → GroupRecord → Input → List ℕ → Stepped
+stepWith row s g i out =
+    cond (eqb (numberWith row s g i out) 0) (answerWith row s g i) (refusedOf (numberWith row s g i out) g)
+
+-- the buffer after it: row 0 changes no byte; any other row has its line at the front, unless it is refused
+abbrev pub bufferWith : Row → Settings → GroupRecord → Input → List ℕ → List ℕ
+bufferWith row s g i out = cond (eqb (rowNumber row) 0) out (lentAfter (numberWith row s g i out) (lineWith row s g i) out)
+
+-- ---- a step, by the row that is met
+
+-- what carrying it out gives
+abbrev pub doneOf : Settings → GroupRecord → Input → Carried
+doneOf s g i = carryOut s g i (rowOf s g (i .event))
+
+-- the line that it sends
+abbrev pub stepLine : Settings → GroupRecord → Input → List ℕ
+stepLine s g i = lineWith (rowOf s g (i .event)) s g i
+
+-- the number before anything is sent
+abbrev pub numberBeforeSending : Settings → GroupRecord → Input → ℕ
+numberBeforeSending s g i = testsWith (rowOf s g (i .event)) s g i
+
+-- the number
+abbrev pub stepNumber : Settings → GroupRecord → Input → List ℕ → ℕ
+stepNumber s g i out = numberWith (rowOf s g (i .event)) s g i out
+
+-- the answer where it is 0
+abbrev pub answerMet : Settings → GroupRecord → Input → Stepped
+answerMet s g i = answerWith (rowOf s g (i .event)) s g i
+
+-- the answer
+unfoldable pub stepOf : Settings → GroupRecord → Input → List ℕ → Stepped
+stepOf s g i out = stepWith (rowOf s g (i .event)) s g i out
+
+-- the buffer
 unfoldable pub stepBuffer : Settings → GroupRecord → Input → List ℕ → List ℕ
-stepBuffer s g i out = lentAfter (stepNumber s g i out) (stepLine s g i) out
+stepBuffer s g i out = bufferWith (rowOf s g (i .event)) s g i out

@@ -48,17 +48,36 @@ fn row_number(row: Row) -> u8
     }
 }
 
-// A refusal: the record as it was, no row, no timers, no line.
-fn refused(number: u8, stored: GroupRecord) -> Stepped
-    ensures { λ r. ⌜ r ≡ refusedOf number stored ⌝ }
-{
-    Stepped {
-        number: number,
-        row: 0,
-        next: stored,
-        stop: Timers::NONE,
-        start: Timers::NONE,
-        length: 0,
+impl Stepped {
+    // A refusal: the record as it was, no row, no timers, no line.
+    fn refused(number: u8, stored: GroupRecord) -> Stepped
+        ensures { λ r. ⌜ r ≡ refusedOf number stored ⌝ }
+    {
+        Stepped {
+            number: number,
+            row: 0,
+            next: stored,
+            stop: Timers::NONE,
+            start: Timers::NONE,
+            length: 0,
+        }
+    }
+
+    // A step that was carried out, with the length of its line.
+    fn moved(row: Row, done: Carried, written: Written) -> Stepped
+        ensures { λ r. ⌜ r ≡ movedOf row done (written .length) ⌝ }
+    {
+        let next = done.next;
+        let stop = done.stop;
+        let start = done.start;
+        Stepped {
+            number: 0,
+            row: row_number(row),
+            next: next,
+            stop: stop,
+            start: start,
+            length: written.length,
+        }
     }
 }
 
@@ -72,23 +91,6 @@ fn change_too_early(settings: Settings, stored: GroupRecord, event: Event, row: 
     (row_number(row) == 9) & !(held.last_change < brought.last_change)
 }
 
-// A step that was carried out, with the length of its line.
-fn moved(row: Row, done: Carried, written: Written) -> Stepped
-    ensures { λ r. ⌜ r ≡ movedOf row done (written .length) ⌝ }
-{
-    let next = done.next;
-    let stop = done.stop;
-    let start = done.start;
-    Stepped {
-        number: 0,
-        row: row_number(row),
-        next: next,
-        stop: stop,
-        start: start,
-        length: written.length,
-    }
-}
-
 // A step of the group call machine.
 pub fn step(settings: Settings, stored: GroupRecord, input: Input, out: &mut [u8]) -> Stepped
     ensures { λ r. ⌜ r ≡ stepOf settings stored input (now (out .entry)) ⌝ }
@@ -96,22 +98,22 @@ pub fn step(settings: Settings, stored: GroupRecord, input: Input, out: &mut [u8
 {
     let number = number_before_row(settings, well_formed(settings, stored), input);
     if number != 0 {
-        return refused(number, stored);
+        return Stepped::refused(number, stored);
     }
     let event = input.event;
     let row = row_of(settings, stored, event);
     if row_number(row) == 0 {
-        return refused(0, stored);
+        return Stepped::refused(0, stored);
     }
     if change_too_early(settings, stored, event, row) {
-        return refused(8, stored);
+        return Stepped::refused(8, stored);
     }
     let done = carry_out(settings, stored, input, row);
     let sent = done.sent;
     let media = done.next.media;
     let written = write_sent(sent, media, out);
     if written.number != 0 {
-        return refused(written.number, stored);
+        return Stepped::refused(written.number, stored);
     }
-    moved(row, done, written)
+    Stepped::moved(row, done, written)
 }

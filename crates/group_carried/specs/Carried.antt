@@ -15,6 +15,7 @@ use Rattle.call.specs.declared.Timer.{Timer}
 use Rattle.call.specs.declared.Event.{Event}
 use Rattle.call.specs.declared.Input.{Input}
 use Rattle.call.specs.declared.Send.{Send}
+use Rattle.call.specs.declared.timers.TimerFacts.{TimerFacts}
 use Rattle.announced.specs.Announced.{announcedOf}
 use Rattle.announced.specs.declared.Announced.{Announced}
 use Rattle.group_record.specs.States.{stateNumber, has, setOf, noTimer, tfg2, tfg4, tfg6}
@@ -27,6 +28,7 @@ use Rattle.group_effects.specs.declared.Hold.{Hold}
 use Rattle.group_effects.specs.declared.Say.{Say}
 use Rattle.group_effects.specs.declared.Effect.{Effect}
 use Rattle.group_carried.specs.declared.Carried.{Carried}
+use Rattle.group_carried.specs.declared.timers.TimerSets.{TimerSets}
 
 -- ---- the timers
 
@@ -51,13 +53,24 @@ ranOut (Event.Message m) = noTimer
 abbrev pub changes : State → State → Bool
 changes state to = not (eqb (stateNumber state) (stateNumber to))
 
+-- what the rules ask of one timer, from the sets and from whether the state changes
+abbrev pub timerFacts : TimerSets → GroupTimer → TimerFacts
+timerFacts x t =
+    record {
+      «was_running» = has (x .«was_running») t;
+      «ran_out» = has (x .«ran_out») t;
+      «stop_asked» = has (x .«stop_asked») t;
+      started = has (x .started) t;
+      «state_changes» = x .«state_changes»;
+    }
+
 -- the timers that are stopped, by the rule for each
-unfoldable pub stoppedOf : Bool → Timers → Timers → Timers → Timers → Timers
-stoppedOf changed asked was started out = setOf (λ t. isStopped changed (has asked t) (has was t) (has started t) (has out t))
+unfoldable pub stoppedOf : TimerSets → Timers
+stoppedOf x = setOf (λ t. isStopped (timerFacts x t))
 
 -- the timers that run afterwards, by the rule for each
-unfoldable pub runningAfter : Timers → Timers → Timers → Timers → Timers
-runningAfter was stopped out started = setOf (λ t. runsAfter (has was t) (has stopped t) (has out t) (has started t))
+unfoldable pub runningAfter : TimerSets → Timers
+runningAfter x = setOf (λ t. runsAfter (timerFacts x t))
 
 -- ---- the call
 
@@ -114,13 +127,18 @@ sentOf s Say.Accept call confirm = Send.Message (GroupAccept (acceptance s call)
 
 -- ---- the whole
 
--- the timers that a row stops where these run
+-- what the rules ask of the timers where some run, one ran out, and a row is carried out
+abbrev pub timersBy : State → Timers → Timers → Effect → TimerSets
+timersBy state was out x =
+    record { «was_running» = was; «ran_out» = out; «stop_asked» = x .stop; started = x .start; «state_changes» = changes state (x .to) }
+
+-- the timers that it stops
 abbrev pub stoppedBy : State → Timers → Timers → Effect → Timers
-stoppedBy state was out x = stoppedOf (changes state (x .to)) (x .stop) was (x .start) out
+stoppedBy state was out x = stoppedOf (timersBy state was out x)
 
 -- the timers that run afterwards
 abbrev pub runningBy : State → Timers → Timers → Effect → Timers
-runningBy state was out x = runningAfter was (stoppedBy state was out x) out (x .start)
+runningBy state was out x = runningAfter (timersBy state was out x)
 
 -- the next record, what stops, what starts, what is sent
 abbrev pub carriedBy : Settings → GroupRecord → Timers → Announced → Media → Effect → Carried

@@ -4,6 +4,7 @@ mod timers;
 
 ghost use mathlib.Core.Path.{_≡_};
 ghost use Rattle.group_carried.specs.Carried.{carryOut};
+use crate::timers::TimerSets;
 use announced::announced_of;
 use call::Input;
 use call::Send;
@@ -41,16 +42,22 @@ pub fn carry_out(settings: Settings, stored: GroupRecord, input: Input, row: Row
     let hold = effect.hold;
     let say = effect.say;
     let out = timers::ran_out(event);
-    let stop = timers::stopped(timers::state_changes(state, to), asked, was, start, out);
+    let sets = TimerSets {
+        was_running: was,
+        ran_out: out,
+        stop_asked: asked,
+        started: start,
+        state_changes: timers::state_changes(state, to),
+    };
     let after = settled::held(hold, call, brought);
     Carried {
         next: GroupRecord {
             state: to,
-            running: timers::running_after(was, stop, out, start),
+            running: sets.running_after(),
             call: after,
             media: settled::media_held(hold, stored_media, media),
         },
-        stop: stop,
+        stop: sets.stopped(),
         start: start,
         sent: settled::sent(settings, say, after, confirm),
     }

@@ -1,11 +1,12 @@
 // The general rules, over all rows: what becomes of the timers.
 ghost use mathlib.Core.Path.{_≡_};
-ghost use Rattle.call.specs.Timing.{isStopped, runsAfter};
-ghost use Rattle.group_record.specs.States.{stateNumber};
-ghost use Rattle.group_carried.specs.Carried.{ranOut, timerOut, groupTimerOut, changes, stoppedOf, runningAfter};
+ghost use Rattle.group_record.specs.States.{stateNumber, has as hasTimer};
+ghost use Rattle.group_carried.specs.Carried.{ranOut, timerOut, groupTimerOut, changes};
+ghost use Rattle.group_carried.specs.Carried.{timerFacts, stoppedOf, runningAfter};
 use call::Event;
 use call::GroupTimer;
 use call::Timer;
+use call::timers::TimerFacts;
 use group_record::states::State;
 use group_record::states::Timers;
 
@@ -60,45 +61,63 @@ pub(crate) fn state_changes(state: State, to: State) -> bool
     !(state_number(state) == state_number(to))
 }
 
-// Whether a timer is stopped: it runs and did not just run out, and the row asks for it, or the state changes and it is
-// not started again.
-fn is_stopped(changed: bool, asked: bool, was: bool, started: bool, out: bool) -> bool
-    ensures { λ r. ⌜ r ≡ isStopped changed asked was started out ⌝ }
+// Whether a timer is in a set.
+fn has(timers: Timers, timer: GroupTimer) -> bool
+    ensures { λ r. ⌜ r ≡ hasTimer timers timer ⌝ }
 {
-    was & (!out & (asked | (changed & !started)))
-}
-
-// What stops.
-pub(crate) fn stopped(
-    changed: bool,
-    asked: Timers,
-    was: Timers,
-    started: Timers,
-    out: Timers,
-) -> Timers
-    ensures { λ r. ⌜ r ≡ stoppedOf changed asked was started out ⌝ }
-{
-    Timers {
-        tfg2: is_stopped(changed, asked.tfg2, was.tfg2, started.tfg2, out.tfg2),
-        tfg4: is_stopped(changed, asked.tfg4, was.tfg4, started.tfg4, out.tfg4),
-        tfg6: is_stopped(changed, asked.tfg6, was.tfg6, started.tfg6, out.tfg6),
+    match timer {
+        GroupTimer::Tfg2 => timers.tfg2,
+        GroupTimer::Tfg4 => timers.tfg4,
+        GroupTimer::Tfg6 => timers.tfg6,
     }
 }
 
-// Whether a timer runs afterwards: it was started, or it ran and was neither stopped nor ran out.
-fn runs_after(was: bool, stopped: bool, out: bool, started: bool) -> bool
-    ensures { λ r. ⌜ r ≡ runsAfter was stopped out started ⌝ }
-{
-    started | (was & (!stopped & !out))
+// What the rules ask of the timers: the sets, and whether the state changes.
+pub struct TimerSets {
+    pub was_running: Timers,
+    pub ran_out: Timers,
+    pub stop_asked: Timers,
+    pub started: Timers,
+    pub state_changes: bool,
 }
 
-// What runs afterwards.
-pub(crate) fn running_after(was: Timers, stopped: Timers, out: Timers, started: Timers) -> Timers
-    ensures { λ r. ⌜ r ≡ runningAfter was stopped out started ⌝ }
-{
-    Timers {
-        tfg2: runs_after(was.tfg2, stopped.tfg2, out.tfg2, started.tfg2),
-        tfg4: runs_after(was.tfg4, stopped.tfg4, out.tfg4, started.tfg4),
-        tfg6: runs_after(was.tfg6, stopped.tfg6, out.tfg6, started.tfg6),
+impl TimerSets {
+    // What they ask of one timer.
+    fn of(self, timer: GroupTimer) -> TimerFacts
+        ensures { λ r. ⌜ r ≡ timerFacts self timer ⌝ }
+    {
+        let was_running = self.was_running;
+        let ran_out = self.ran_out;
+        let stop_asked = self.stop_asked;
+        let started = self.started;
+        TimerFacts {
+            was_running: has(was_running, timer),
+            ran_out: has(ran_out, timer),
+            stop_asked: has(stop_asked, timer),
+            started: has(started, timer),
+            state_changes: self.state_changes,
+        }
+    }
+
+    // What stops.
+    pub(crate) fn stopped(self) -> Timers
+        ensures { λ r. ⌜ r ≡ stoppedOf self ⌝ }
+    {
+        Timers {
+            tfg2: self.of(GroupTimer::Tfg2).is_stopped(),
+            tfg4: self.of(GroupTimer::Tfg4).is_stopped(),
+            tfg6: self.of(GroupTimer::Tfg6).is_stopped(),
+        }
+    }
+
+    // What runs afterwards.
+    pub(crate) fn running_after(self) -> Timers
+        ensures { λ r. ⌜ r ≡ runningAfter self ⌝ }
+    {
+        Timers {
+            tfg2: self.of(GroupTimer::Tfg2).runs_after(),
+            tfg4: self.of(GroupTimer::Tfg4).runs_after(),
+            tfg6: self.of(GroupTimer::Tfg6).runs_after(),
+        }
     }
 }

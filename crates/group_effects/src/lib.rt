@@ -42,55 +42,57 @@ pub struct Effect {
     pub say: Say,
 }
 
-// A row that enters a state.
-fn enters(to: State, start: Timers, hold: Hold, say: Say) -> Effect
-    ensures { λ r. ⌜ r ≡ entersOf to start hold say ⌝ }
-{
-    Effect {
-        to: to,
-        stop: Timers::NONE,
-        start: start,
-        hold: hold,
-        say: say,
+impl Effect {
+    // A row that enters a state.
+    fn enters(to: State, start: Timers, hold: Hold, say: Say) -> Effect
+        ensures { λ r. ⌜ r ≡ entersOf to start hold say ⌝ }
+    {
+        Effect {
+            to: to,
+            stop: Timers::NONE,
+            start: start,
+            hold: hold,
+            say: say,
+        }
     }
-}
 
-// A row that leaves state and timers as they are.
-fn stays(state: State, hold: Hold, say: Say) -> Effect
-    ensures { λ r. ⌜ r ≡ staysOf state hold say ⌝ }
-{
-    Effect {
-        to: state,
-        stop: Timers::NONE,
-        start: Timers::NONE,
-        hold: hold,
-        say: say,
+    // A row that leaves state and timers as they are.
+    fn stays(state: State, hold: Hold, say: Say) -> Effect
+        ensures { λ r. ⌜ r ≡ staysOf state hold say ⌝ }
+    {
+        Effect {
+            to: state,
+            stop: Timers::NONE,
+            start: Timers::NONE,
+            hold: hold,
+            say: say,
+        }
     }
-}
 
-// A row that starts a timer while state and call stay.
-fn starts(state: State, start: Timers, say: Say) -> Effect
-    ensures { λ r. ⌜ r ≡ startsOf state start say ⌝ }
-{
-    Effect {
-        to: state,
-        stop: Timers::NONE,
-        start: start,
-        hold: Hold::Keep,
-        say: say,
+    // A row that starts a timer while state and call stay.
+    fn starts(state: State, start: Timers, say: Say) -> Effect
+        ensures { λ r. ⌜ r ≡ startsOf state start say ⌝ }
+    {
+        Effect {
+            to: state,
+            stop: Timers::NONE,
+            start: start,
+            hold: Hold::Keep,
+            say: say,
+        }
     }
-}
 
-// A row that stops timers and starts them again while the state stays.
-fn restarts(state: State, timers: Timers, hold: Hold) -> Effect
-    ensures { λ r. ⌜ r ≡ restartsOf state timers hold ⌝ }
-{
-    Effect {
-        to: state,
-        stop: timers,
-        start: timers,
-        hold: hold,
-        say: Say::Nothing,
+    // A row that stops timers and starts them again while the state stays.
+    fn restarts(state: State, timers: Timers, hold: Hold) -> Effect
+        ensures { λ r. ⌜ r ≡ restartsOf state timers hold ⌝ }
+    {
+        Effect {
+            to: state,
+            stop: timers,
+            start: timers,
+            hold: hold,
+            say: Say::Nothing,
+        }
     }
 }
 
@@ -101,11 +103,13 @@ fn waiting(confirm: bool) -> State
     if confirm { State::S5 } else { State::S4 }
 }
 
-// An accept where the announcement asks for confirm, else nothing.
-fn confirming(confirm: bool) -> Say
-    ensures { λ r. ⌜ r ≡ confirms confirm ⌝ }
-{
-    if confirm { Say::Accept } else { Say::Nothing }
+impl Say {
+    // An accept where the announcement asks for confirm, else nothing.
+    fn confirming(confirm: bool) -> Say
+        ensures { λ r. ⌜ r ≡ confirms confirm ⌝ }
+    {
+        if confirm { Say::Accept } else { Say::Nothing }
+    }
 }
 
 // What a row does in a state: the table of the rows; confirm is whether the announcement asks for it.
@@ -114,22 +118,22 @@ pub fn effect_of(row: Row, state: State, confirm: bool) -> Effect
 {
     let both = Timers::TFG2_TFG6;
     match row {
-        Row::Discard => stays(state, Hold::Keep, Say::Nothing),
-        Row::G1 => enters(State::S3, both, Hold::Announced, Say::FirstAnnouncement),
-        Row::G2 => starts(state, Timers::TFG2, Say::Announcement),
-        Row::G3 => enters(
+        Row::Discard => Effect::stays(state, Hold::Keep, Say::Nothing),
+        Row::G1 => Effect::enters(State::S3, both, Hold::Announced, Say::FirstAnnouncement),
+        Row::G2 => Effect::starts(state, Timers::TFG2, Say::Announcement),
+        Row::G3 => Effect::enters(
             waiting(confirm),
             Timers::TFG4,
             Hold::Announced,
             Say::Nothing,
         ),
-        Row::G4 => enters(State::S3, both, Hold::Announced, confirming(confirm)),
-        Row::G5 => enters(State::S3, both, Hold::Keep, Say::Accept),
-        Row::G6 => enters(State::S3, both, Hold::Keep, Say::Nothing),
-        Row::G7 => enters(State::S1, Timers::NONE, Hold::Clear, Say::Nothing),
-        Row::G8 => enters(State::S1, Timers::NONE, Hold::Clear, Say::Nothing),
-        Row::G9 => stays(state, Hold::Change, Say::Announcement),
-        Row::G10 => restarts(state, both, Hold::Announced),
-        Row::G11 => restarts(state, Timers::TFG2, Hold::LaterChange),
+        Row::G4 => Effect::enters(State::S3, both, Hold::Announced, Say::confirming(confirm)),
+        Row::G5 => Effect::enters(State::S3, both, Hold::Keep, Say::Accept),
+        Row::G6 => Effect::enters(State::S3, both, Hold::Keep, Say::Nothing),
+        Row::G7 => Effect::enters(State::S1, Timers::NONE, Hold::Clear, Say::Nothing),
+        Row::G8 => Effect::enters(State::S1, Timers::NONE, Hold::Clear, Say::Nothing),
+        Row::G9 => Effect::stays(state, Hold::Change, Say::Announcement),
+        Row::G10 => Effect::restarts(state, both, Hold::Announced),
+        Row::G11 => Effect::restarts(state, Timers::TFG2, Hold::LaterChange),
     }
 }

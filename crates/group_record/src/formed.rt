@@ -8,7 +8,6 @@ use call::Settings;
 use frame::GroupCall;
 use frame::Media;
 use frame::Message;
-use frame::carried::media_none;
 use frame::range::in_range;
 
 // Every field of the call is 0.
@@ -22,7 +21,7 @@ fn no_call(held: GroupCall, media: Media) -> bool
                     & ((held.originator == 0)
                         & ((held.start == 0)
                             & ((held.last_change == 0)
-                                & ((held.last_changer == 0) & media_none(media))))))))
+                                & ((held.last_changer == 0) & media.is_none())))))))
 }
 
 // Every field of the call is in range, as in an announcement, and its group is own.
@@ -32,15 +31,17 @@ fn call_held(settings: Settings, held: GroupCall, media: Media) -> bool
     in_range(Message::Announcement(held, 0), media) & (held.group == settings.own_group)
 }
 
-// The state is S1.
-fn start_stop(state: State) -> bool
-    ensures { λ r. ⌜ r ≡ eqb (stateNumber state) 1 ⌝ }
-{
-    match state {
-        State::S1 => true,
-        State::S3 => false,
-        State::S4 => false,
-        State::S5 => false,
+impl State {
+    // The state is S1.
+    fn is_start_stop(self) -> bool
+        ensures { λ r. ⌜ r ≡ eqb (stateNumber self) 1 ⌝ }
+    {
+        match self {
+            State::S1 => true,
+            State::S3 => false,
+            State::S4 => false,
+            State::S5 => false,
+        }
     }
 }
 
@@ -48,7 +49,7 @@ fn start_stop(state: State) -> bool
 pub(crate) fn call_good(settings: Settings, state: State, held: GroupCall, media: Media) -> bool
     ensures { λ r. ⌜ r ≡ callGood settings state held media ⌝ }
 {
-    if start_stop(state) {
+    if state.is_start_stop() {
         no_call(held, media)
     } else {
         call_held(settings, held, media)

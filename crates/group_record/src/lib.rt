@@ -7,7 +7,6 @@ ghost use mathlib.Core.Path.{_≡_};
 ghost use Rattle.group_record.specs.Formed.{wellFormed};
 use crate::formed::call_good;
 use crate::states::GroupRecord;
-use crate::states::running_of;
 use crate::states::same_timers;
 use call::Settings;
 
@@ -19,5 +18,5 @@ pub fn well_formed(settings: Settings, stored: GroupRecord) -> bool
     let running = stored.running;
     let held = stored.call;
     let media = stored.media;
-    same_timers(running, running_of(state)) & call_good(settings, state, held, media)
+    same_timers(running, state.running()) & call_good(settings, state, held, media)
 }

@@ -13,6 +13,20 @@ pub enum State {
     S5,
 }
 
+impl State {
+    // The timers that run in it.
+    pub(crate) fn running(self) -> Timers
+        ensures { λ r. ⌜ r ≡ runningOf self ⌝ }
+    {
+        match self {
+            State::S1 => Timers::NONE,
+            State::S3 => Timers::TFG2_TFG6,
+            State::S4 => Timers::TFG4,
+            State::S5 => Timers::TFG4,
+        }
+    }
+}
+
 // A set of the group timers.
 pub struct Timers {
     pub tfg2: bool,
@@ -73,13 +87,13 @@ impl GroupRecord {
         call: GroupCall::NONE,
         media: Media::NONE,
     };
-}
 
-// The cleared record, which a host begins with.
-pub fn cleared_record() -> GroupRecord
-    ensures { λ r. ⌜ r ≡ clearedRecord ⌝ }
-{
-    GroupRecord::CLEARED
+    // The cleared record, which a host begins with.
+    pub fn cleared() -> GroupRecord
+        ensures { λ r. ⌜ r ≡ clearedRecord ⌝ }
+    {
+        GroupRecord::CLEARED
+    }
 }
 
 // The same timers are in two sets.
@@ -87,16 +101,4 @@ pub(crate) fn same_timers(a: Timers, b: Timers) -> bool
     ensures { λ r. ⌜ r ≡ sameTimers a b ⌝ }
 {
     (a.tfg2 == b.tfg2) & ((a.tfg4 == b.tfg4) & (a.tfg6 == b.tfg6))
-}
-
-// The timers that run in a state.
-pub(crate) fn running_of(state: State) -> Timers
-    ensures { λ r. ⌜ r ≡ runningOf state ⌝ }
-{
-    match state {
-        State::S1 => Timers::NONE,
-        State::S3 => Timers::TFG2_TFG6,
-        State::S4 => Timers::TFG4,
-        State::S5 => Timers::TFG4,
-    }
 }

@@ -82,3 +82,22 @@ factsOf s stored brought =
       better = isBetter brought stored;
       «better_rank» = betterRank brought stored;
     }
+
+-- ---- causes told apart
+
+-- the causes by numbers, to tell them apart
+abbrev pub causeNumber : Cause → ℕ
+causeNumber Cause.UserStarts = 0
+causeNumber Cause.UserAccepts = 1
+causeNumber Cause.UserRejects = 2
+causeNumber Cause.UserLeaves = 3
+causeNumber Cause.UserRaises = 4
+causeNumber Cause.Tfg2Expires = 5
+causeNumber Cause.Tfg4Expires = 6
+causeNumber Cause.Tfg6Expires = 7
+causeNumber Cause.AnnouncementHeard = 8
+causeNumber Cause.Other = 9
+
+-- two causes are the same
+abbrev pub sameCause : Cause → Cause → Bool
+sameCause c d = eqb (causeNumber c) (causeNumber d)

@@ -1,4 +1,5 @@
--- How the code finds the row: by the cause, then by the state. Assumes nothing.
+-- Nobody has to believe this file: it says how the code finds the row, and `found-is-met` shows that it is the row of Rows.antt.
+-- The code looks at the cause first, then at the state. Assumes nothing.
 use mathlib.Core.Bool.{Bool, cond, _&&_, _||_}
 use lib.Dec.{eqb}
 use Rattle.group_record.specs.States.{stateNumber}

@@ -15,35 +15,37 @@ struct At {
     s5: bool,
 }
 
-// Which state it is.
-fn at_state(state: State) -> At
-    ensures { λ r. ⌜ r ≡ atOf state ⌝ }
-{
-    match state {
-        State::S1 => At {
-            s1: true,
-            s3: false,
-            s4: false,
-            s5: false,
-        },
-        State::S3 => At {
-            s1: false,
-            s3: true,
-            s4: false,
-            s5: false,
-        },
-        State::S4 => At {
-            s1: false,
-            s3: false,
-            s4: true,
-            s5: false,
-        },
-        State::S5 => At {
-            s1: false,
-            s3: false,
-            s4: false,
-            s5: true,
-        },
+impl At {
+    // Which state it is.
+    fn of(state: State) -> At
+        ensures { λ r. ⌜ r ≡ atOf state ⌝ }
+    {
+        match state {
+            State::S1 => At {
+                s1: true,
+                s3: false,
+                s4: false,
+                s5: false,
+            },
+            State::S3 => At {
+                s1: false,
+                s3: true,
+                s4: false,
+                s5: false,
+            },
+            State::S4 => At {
+                s1: false,
+                s3: false,
+                s4: true,
+                s5: false,
+            },
+            State::S5 => At {
+                s1: false,
+                s3: false,
+                s4: false,
+                s5: true,
+            },
+        }
     }
 }
 
@@ -93,5 +95,5 @@ fn found_at(at: At, cause: Cause, x: Facts) -> Row
 pub(crate) fn row_in(state: State, cause: Cause, facts: Facts) -> Row
     ensures { λ r. ⌜ r ≡ rowIn state cause facts ⌝ }
 {
-    found_at(at_state(state), cause, facts)
+    found_at(At::of(state), cause, facts)
 }

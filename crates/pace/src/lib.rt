@@ -27,7 +27,7 @@ pub extern "C" fn pace_private_steps(script: &[u8], out: &mut [u8]) -> usize
     ensures { λ r. ⌜ r ≡ rowsMet privatePlay (now (out .entry)) (now (script .entry)) ⌝ }
     ensures { λ _. ⌜ now (out .exit) ≡ bufferAfter privatePlay (now (out .entry)) (now (script .entry)) ⌝ }
 {
-    let mut stored = private_record::states::cleared_record();
+    let mut stored = private_record::states::PrivateRecord::cleared();
     let mut met = 0;
     let mut at = 0;
     while at < script.len() {
@@ -45,7 +45,7 @@ pub extern "C" fn pace_group_steps(script: &[u8], out: &mut [u8]) -> usize
     ensures { λ r. ⌜ r ≡ rowsMet groupPlay (now (out .entry)) (now (script .entry)) ⌝ }
     ensures { λ _. ⌜ now (out .exit) ≡ bufferAfter groupPlay (now (out .entry)) (now (script .entry)) ⌝ }
 {
-    let mut stored = group_record::states::cleared_record();
+    let mut stored = group_record::states::GroupRecord::cleared();
     let mut met = 0;
     let mut at = 0;
     while at < script.len() {

@@ -1,9 +1,8 @@
 -- The cases of a step: refused by a test, refused by R1, refused by the writer, carried out. Assumes nothing.
 use Prim.Native.Nat.{ℕ}
-use mathlib.Core.Path.{_≡_, ap, _∙_}
+use mathlib.Core.Path.{_≡_, sym, ap, _∙_}
 use mathlib.Core.List.{List}
 use mathlib.Core.Bool.{Bool, true, false}
-use lib.ListN.{length}
 use Rattle.call.specs.declared.Settings.{Settings}
 use Rattle.call.specs.declared.Input.{Input}
 use Rattle.step_numbers.specs.Numbers.{numberBeforeRow}
@@ -11,9 +10,10 @@ use Rattle.stepping.specs.Sending.{sendNumber, sendTold, sendBuffer}
 use Rattle.stepping.proofs.Answers as answers
 use Rattle.private_record.specs.Formed.{wellFormed}
 use Rattle.private_record.specs.declared.states.PrivateRecord.{PrivateRecord}
-use Rattle.private_rows.specs.Rows.{rowOf}
-use Rattle.private_call.specs.Step.{identifierTaken, doneOf, stepLine, refusedOf, movedOf, stepOf, stepBuffer}
+use Rattle.private_rows.specs.Rows.{rowNumber, rowOf}
+use Rattle.private_call.specs.Step.{identifierTaken, doneOf, refusedOf, movedOf, answerMet, stepOf, stepBuffer}
 use Rattle.private_call.specs.declared.Stepped.{Stepped}
+use Rattle.private_call.proofs.Steps.{buffer-lent, answer-of-row}
 
 module _ (s : Settings) (p : PrivateRecord) (i : Input) (out : List ℕ) where
   -- the number before a row is looked for
@@ -32,36 +32,33 @@ module _ (s : Settings) (p : PrivateRecord) (i : Input) (out : List ℕ) where
   abbrev left : List ℕ
   left = sendBuffer (doneOf s p i .sent) (doneOf s p i .next .call .media) out
 
-  -- the answer of a step that is carried out
-  abbrev moved : Stepped
-  moved = movedOf (rowOf s p i) (doneOf s p i) (length (stepLine s p i))
-
   -- an answer and a buffer are those of the step
   abbrev pub Answers : Stepped → List ℕ → Type 0
   Answers r after = (r ≡ stepOf s p i out) × (after ≡ stepBuffer s p i out)
 
+  -- what the number, the row's answer and its line give is the step's
+  as-step : {r : Stepped} {after : List ℕ} → answers.Answers s (wellFormed s p) i taken (doneOf s p i .sent) (doneOf s p i .next .call .media) out (λ n. refusedOf n p) (answerMet s p i) r after → Answers r after
+  unfolding stepOf
+  as-step x = (x .0, x .1 ∙ sym (buffer-lent s p i out))
+
   -- refused before a row is looked for
   pub refused-first : (before ≡ 0 → ⊥) → Answers (refusedOf before p) out
-  unfolding stepOf stepBuffer
-  refused-first =
-      answers.refused-first s (wellFormed s p) i taken (doneOf s p i .sent) (doneOf s p i .next .call .media) out (λ n. refusedOf n p) moved
+  refused-first f =
+      as-step (answers.refused-first s (wellFormed s p) i taken (doneOf s p i .sent) (doneOf s p i .next .call .media) out (λ n. refusedOf n p) (answerMet s p i) f)
 
   -- refused by R1
   pub refused-by-row : before ≡ 0 → taken ≡ true → Answers (refusedOf 8 p) out
-  unfolding stepOf stepBuffer
-  refused-by-row =
-      answers.refused-by-row s (wellFormed s p) i taken (doneOf s p i .sent) (doneOf s p i .next .call .media) out (λ n. refusedOf n p) moved
+  refused-by-row e t =
+      as-step (answers.refused-by-row s (wellFormed s p) i taken (doneOf s p i .sent) (doneOf s p i .next .call .media) out (λ n. refusedOf n p) (answerMet s p i) e t)
 
   -- refused by the writer
   pub refused-sending : before ≡ 0 → taken ≡ false → (writers ≡ 0 → ⊥) → Answers (refusedOf writers p) left
-  unfolding stepOf stepBuffer
-  refused-sending =
-      answers.refused-sending s (wellFormed s p) i taken (doneOf s p i .sent) (doneOf s p i .next .call .media) out (λ n. refusedOf n p) moved
+  refused-sending e t f =
+      as-step (answers.refused-sending s (wellFormed s p) i taken (doneOf s p i .sent) (doneOf s p i .next .call .media) out (λ n. refusedOf n p) (answerMet s p i) e t f)
 
   -- carried out, with the length that the writer tells
-  pub carried-out : before ≡ 0 → taken ≡ false → writers ≡ 0
+  pub carried-out : before ≡ 0 → (rowNumber (rowOf s p i) ≡ 0 → ⊥) → taken ≡ false → writers ≡ 0
       → Answers (movedOf (rowOf s p i) (doneOf s p i) (sendTold (doneOf s p i .sent) (doneOf s p i .next .call .media) out .length)) left
-  unfolding stepOf stepBuffer
-  carried-out e t w =
-      let r = answers.carried-out s (wellFormed s p) i taken (doneOf s p i .sent) (doneOf s p i .next .call .media) out (λ n. refusedOf n p) moved e t w in
-      (ap (movedOf (rowOf s p i) (doneOf s p i)) (answers.told-length (doneOf s p i .sent) (doneOf s p i .next .call .media) out w) ∙ r .0, r .1)
+  carried-out e n t w =
+      let r = as-step (answers.carried-out s (wellFormed s p) i taken (doneOf s p i .sent) (doneOf s p i .next .call .media) out (λ n. refusedOf n p) (answerMet s p i) e t w) in
+      (ap (movedOf (rowOf s p i) (doneOf s p i)) (answers.told-length (doneOf s p i .sent) (doneOf s p i .next .call .media) out w) ∙ sym (answer-of-row s p i n) ∙ r .0, r .1)

@@ -1,14 +1,16 @@
--- The cleared record is well formed, and TFP7 clears the record. Assumes nothing.
+-- The cleared record is well formed, R28 clears the record, and TFP7 meets it. Assumes nothing.
 use Prim.Native.Nat.{ℕ}
-use mathlib.Core.Path.{_≡_, refl, ap, _∙_}
+use mathlib.Core.Path.{_≡_, refl, ap, _∙_, subst}
 use mathlib.Core.List.{List}
 use mathlib.Core.Bool.{true, false}
+use native.Mathlib.Omega.{arith}
 use lib.Dec.{eqb}
 use Rattle.frame.specs.declared.Media.{Media}
 use Rattle.call.specs.Settings.{settingsGood}
 use Rattle.call.specs.declared.Settings.{Settings}
 use Rattle.call.specs.declared.Verdicts.{Verdicts}
 use Rattle.call.specs.declared.PrivateTimer.{PrivateTimer}
+use Rattle.call.specs.declared.Input.{Input}
 use Rattle.private_record.specs.Phases.{tfp7, noTimer, runningOf, phaseIn, phaseOf}
 use Rattle.private_record.specs.Formed.{noCall, clearedRecord, wellFormed}
 use Rattle.private_record.specs.declared.states.State.{State}
@@ -27,12 +29,43 @@ use Rattle.private_carried.specs.Carried.{startedOf, stoppedOf, runningAfter, c
 use Rattle.private_call.specs.Step.{stepOf}
 use Rattle.private_call.specs.Running.{expiry}
 use Rattle.private_call.specs.declared.Stepped.{Stepped}
-use Rattle.private_call.proofs.MarkedSteps.{carries, expiry-taken}
+use Rattle.private_call.proofs.Keeping.{carried-well-formed}
+use Rattle.private_call.proofs.Steps.{tests-passed, step-passed}
+use Rattle.private_call.proofs.MarkedSteps.{carries, next-done, row-met, expiry-taken}
 
 -- under all settings
 pub cleared-well-formed : (s : Settings) → wellFormed s clearedRecord ≡ true
 unfolding wellFormed
 cleared-well-formed s = refl
+
+-- ---- R28
+
+-- in a well-formed record no timer runs after R28, since it enters P0
+runs-none : (s : Settings) (p : PrivateRecord) (i : Input) → wellFormed s (carryOut s p i R28 .next) ≡ true → carryOut s p i R28 .next .running ≡ noTimer
+unfolding carryOut
+runs-none s p i w = fit s (carryOut s p i R28 .next) w .running
+
+-- so what it leaves is the cleared record
+leaves-cleared : (s : Settings) (p : PrivateRecord) (i : Input) → wellFormed s (carryOut s p i R28 .next) ≡ true → carryOut s p i R28 .next ≡ clearedRecord
+unfolding carryOut countersAfter
+leaves-cleared s p i w =
+    let t = runs-none s p i w in
+    λ j. record {
+      state = State.P0;
+      running = t j;
+      counters = countersAfter (t j) (startedBy (p .state) (effectOf R28 (p .state))) false (s .limits) (p .counters);
+      call = noCall;
+    }
+
+-- a step that tells it leaves the cleared record
+pub row-28-clears : (s : Settings) (p : PrivateRecord) (i : Input) (out : List ℕ) → stepOf s p i out .row ≡ 28 → stepOf s p i out .next ≡ clearedRecord
+row-28-clears s p i out told =
+    let (e, met) = row-met s p i out R28 (λ z. let w : ⊥ = omega (arith, z) in w) told in
+    let w = carried-well-formed s p i (tests-passed s p i (step-passed s p i out e .0) .0) in
+    next-done s p i out e
+    ∙ ((λ j. carryOut s p i (met j) .next) ∙ leaves-cleared s p i (subst (λ (row : Row). wellFormed s (carryOut s p i row .next) ≡ true) met w))
+
+-- ---- TFP7
 
 -- the expiry of TFP7 in P1 meets R28
 ignoring-ends : (x : Facts) → rowIn Phase.P1 Cause.Tfp7Expires x ≡ R28

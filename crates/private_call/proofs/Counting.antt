@@ -12,7 +12,8 @@ use Rattle.call.specs.declared.Counters.{Counters}
 use Rattle.call.proofs.Laws.{both}
 use Rattle.private_record.specs.Formed.{counterGood, countersGood}
 use Rattle.private_record.specs.declared.states.Timers.{Timers}
-use Rattle.private_carried.specs.Carried.{oneMore, counterAfter, countersAfter, runningAfter}
+use Rattle.private_carried.specs.Carried.{oneMore, counterAfter, countersAfter, stoppedOf, runningAfter}
+use Rattle.private_carried.specs.declared.timers.TimerSets.{TimerSets}
 
 -- between its ends
 inside : (low n high : ℕ) → low ≤ n → n ≤ high → within low n high ≡ true
@@ -33,7 +34,8 @@ at-most false limit n e = let z : n ≡ 0 = eqb-true n 0 e in omega arith
 
 -- a counter stays in its range, whatever runs, stops, runs out and starts
 pub counter-keeps : (was stop out started again : Bool) (limit n : ℕ) → 1 ≤ limit → counterGood was limit n ≡ true
-    → counterGood (started || (was && (not stop && not out))) limit (counterAfter (started || (was && (not stop && not out))) started again limit n) ≡ true
+    → let runs = started || (was && (not stop && not out)) in
+    counterGood runs limit (counterAfter (record { runs = runs; started = started; again = again; limit = limit; was = n })) ≡ true
 counter-keeps was stop out true true limit n l g = more-inside limit n l (at-most was limit n g)
 counter-keeps was stop out true false limit n l g = inside 1 1 limit (omega arith) l
 counter-keeps true true out false again limit n l g = refl
@@ -46,11 +48,14 @@ pub least : (limit : ℕ) → limitGood limit ≡ true → 1 ≤ limit
 least limit e = within-split 1 limit 16 e .0
 
 -- so the three of them stay in their ranges
-pub counters-keep : (was stop out started : Timers) (again : Bool) (limits counters : Counters) → limitsGood limits ≡ true
-    → countersGood was limits counters ≡ true
-    → countersGood (runningAfter was stop out started) limits (countersAfter (runningAfter was stop out started) started again limits counters) ≡ true
-unfolding runningAfter countersAfter
-counters-keep was stop out started again limits counters l g =
+pub counters-keep : (x : TimerSets) (again : Bool) (limits counters : Counters) → limitsGood limits ≡ true → countersGood (x .«was_running») limits counters ≡ true
+    → countersGood (runningAfter x) limits (countersAfter (runningAfter x) (x .started) again limits counters) ≡ true
+unfolding stoppedOf runningAfter countersAfter
+counters-keep x again limits counters l g =
+    let was = x .«was_running» in
+    let out = x .«ran_out» in
+    let stop = stoppedOf x in
+    let started = x .started in
     let l1 = and-split (limitGood (limits .cfp1)) _ l in
     let l3 = and-split (limitGood (limits .cfp3)) (limitGood (limits .cfp4)) (l1 .1) in
     let g1 = and-split (counterGood (was .tfp1) (limits .cfp1) (counters .cfp1)) _ g in

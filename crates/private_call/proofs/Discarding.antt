@@ -6,9 +6,10 @@ use borrow.Author.Tests.{eqb-true, eq-eqb}
 use Rattle.frame.proofs.Laws.{and-split}
 use Rattle.call.specs.declared.Counters.{Counters}
 use Rattle.call.specs.declared.Settings.{Settings}
+use Rattle.call.specs.declared.PrivateTimer.{PrivateTimer}
 use Rattle.call.specs.declared.Input.{Input}
 use Rattle.call.specs.declared.Send.{Send}
-use Rattle.call.proofs.Timing.{stops-none}
+use Rattle.call.proofs.Timing.{stops-none, runs-on-one}
 use Rattle.private_record.specs.Phases.{stateNumber, noTimer, runningOf, phaseOf}
 use Rattle.private_record.specs.Formed.{counterGood, countersGood}
 use Rattle.private_record.specs.declared.states.State.{State}
@@ -21,7 +22,7 @@ use Rattle.private_rows.specs.Causes.{causeOf, factsOf}
 use Rattle.private_rows.specs.Rows.{rowOf}
 use Rattle.private_rows.specs.declared.causes.Cause.{Cause}
 use Rattle.private_effects.specs.Effects.{effectOf}
-use Rattle.private_carried.specs.Carried.{ranOut, changes, startedOf, stoppedOf, runningAfter, counterAfter, countersAfter, startedBy, stoppedBy, runningBy, carryOut}
+use Rattle.private_carried.specs.Carried.{ranOut, changes, startedOf, stoppedOf, runningAfter, counterAfter, countersAfter, startedBy, timerFacts, timersBy, stoppedBy, runningBy, carryOut}
 use Rattle.private_carried.specs.declared.Carried.{Carried}
 use Rattle.private_call.proofs.Brought.{outOf, ran-out-of}
 use Rattle.private_call.proofs.Settling.{less, Sound, rows-sound}
@@ -31,7 +32,8 @@ abbrev pub nothing : PrivateRecord → Carried
 nothing p = record { next = p; stop = noTimer; start = noTimer; sent = Send.Nothing }
 
 -- a counter in its range whose timer is not started is the same afterwards
-counter-same : (runs again : Bool) (limit n : ℕ) → counterGood runs limit n ≡ true → counterAfter runs false again limit n ≡ n
+counter-same : (runs again : Bool) (limit n : ℕ) → counterGood runs limit n ≡ true
+    → counterAfter (record { runs = runs; started = false; again = again; limit = limit; was = n }) ≡ n
 counter-same true again limit n g = refl
 counter-same false again limit n g = sym (eqb-true n 0 g)
 
@@ -61,19 +63,32 @@ starts-nothing state = rw (unchanged state)
 stops-nothing : (state : State) (was out : Timers) → stoppedBy state was out (effectOf Discard state) ≡ noTimer
 unfolding stoppedOf
 stops-nothing state was out =
-    rw (unchanged state) (λ i. record {
-      tfp1 = stops-none (was .tfp1) (startedBy state (effectOf Discard state) .tfp1) (out .tfp1) i;
-      tfp2 = stops-none (was .tfp2) (startedBy state (effectOf Discard state) .tfp2) (out .tfp2) i;
-      tfp3 = stops-none (was .tfp3) (startedBy state (effectOf Discard state) .tfp3) (out .tfp3) i;
-      tfp4 = stops-none (was .tfp4) (startedBy state (effectOf Discard state) .tfp4) (out .tfp4) i;
-      tfp5 = stops-none (was .tfp5) (startedBy state (effectOf Discard state) .tfp5) (out .tfp5) i;
-      tfp7 = stops-none (was .tfp7) (startedBy state (effectOf Discard state) .tfp7) (out .tfp7) i;
-    })
+    let x = timerFacts (timersBy state was out (effectOf Discard state)) in
+    let same = unchanged state in
+    λ i. record {
+      tfp1 = stops-none (x PrivateTimer.Tfp1) refl same i;
+      tfp2 = stops-none (x PrivateTimer.Tfp2) refl same i;
+      tfp3 = stops-none (x PrivateTimer.Tfp3) refl same i;
+      tfp4 = stops-none (x PrivateTimer.Tfp4) refl same i;
+      tfp5 = stops-none (x PrivateTimer.Tfp5) refl same i;
+      tfp7 = stops-none (x PrivateTimer.Tfp7) refl same i;
+    }
 
 -- so what runs afterwards is what ran and did not run out
 runs-on : (state : State) (was out : Timers) → runningBy state was out (effectOf Discard state) ≡ less was out
 unfolding runningAfter
-runs-on state was out = rw (stops-nothing state was out, starts-nothing state)
+runs-on state was out =
+    let x = timerFacts (timersBy state was out (effectOf Discard state)) in
+    let same = unchanged state in
+    let none = starts-nothing state in
+    λ i. record {
+      tfp1 = runs-on-one (x PrivateTimer.Tfp1) (λ j. none j .tfp1) refl same i;
+      tfp2 = runs-on-one (x PrivateTimer.Tfp2) (λ j. none j .tfp2) refl same i;
+      tfp3 = runs-on-one (x PrivateTimer.Tfp3) (λ j. none j .tfp3) refl same i;
+      tfp4 = runs-on-one (x PrivateTimer.Tfp4) (λ j. none j .tfp4) refl same i;
+      tfp5 = runs-on-one (x PrivateTimer.Tfp5) (λ j. none j .tfp5) refl same i;
+      tfp7 = runs-on-one (x PrivateTimer.Tfp7) (λ j. none j .tfp7) refl same i;
+    }
 
 -- in the phase of a fit record, that is what ran
 quiet-at : {f : Phase} {c : Cause} {was out : Timers} → was ≡ runningOf f → out ≡ outOf c → Sound f c Discard → less was out ≡ was

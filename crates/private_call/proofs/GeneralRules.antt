@@ -2,52 +2,66 @@
 use Prim.Native.Nat.{ℕ}
 use mathlib.Core.Path.{_≡_, refl, sym, _∙_, subst}
 use mathlib.Core.List.{List}
-use mathlib.Core.Bool.{Bool, true, false, _||_}
+use mathlib.Core.Bool.{Bool, true, false, not, _&&_, _||_}
 use lib.Dec.{eqb}
-use Rattle.call.specs.Timing.{isStopped}
+use Rattle.call.specs.Timing.{isStopped, runsAfter}
 use Rattle.call.specs.declared.Settings.{Settings}
 use Rattle.call.specs.declared.PrivateTimer.{PrivateTimer}
 use Rattle.call.specs.declared.Input.{Input}
 use Rattle.call.proofs.Timing.{change-stops-one, spares-one}
 use Rattle.private_record.specs.Phases.{stateNumber, has}
-use Rattle.private_record.specs.declared.states.Timers.{Timers}
 use Rattle.private_record.specs.declared.states.PrivateRecord.{PrivateRecord}
 use Rattle.private_record.specs.declared.rows.Row.{Row}
 use Rattle.private_record.proofs.WellFormed.{has-set}
 use Rattle.private_rows.specs.Rows.{rowOf}
 use Rattle.private_effects.specs.Effects.{effectOf}
 use Rattle.private_effects.specs.declared.Effect.{Effect}
-use Rattle.private_carried.specs.Carried.{ranOut, changes, startedOf, stoppedOf, countersAfter, startedBy, carryOut}
+use Rattle.private_carried.specs.Carried.{ranOut, changes, startedOf, stoppedOf, runningAfter, countersAfter, timerFacts, timersBy, carryOut}
+use Rattle.private_carried.specs.declared.timers.TimerSets.{TimerSets}
 use Rattle.private_call.specs.Step.{stepNumber, stepOf}
 use Rattle.private_call.specs.declared.Stepped.{Stepped}
 use Rattle.private_call.specs.NoReply.{Counter, cfp1, cfp3, cfp4, countIn, timerOf}
 use Rattle.private_call.proofs.Steps.{step-done}
 
 -- whether a timer is stopped
-stopped-one : (changed : Bool) (asked was started out : Timers) (t : PrivateTimer) → has (stoppedOf changed asked was started out) t
-    ≡ isStopped changed (has asked t) (has was t) (has started t) (has out t)
+stopped-one : (x : TimerSets) (t : PrivateTimer) → has (stoppedOf x) t ≡ isStopped (timerFacts x t)
 unfolding stoppedOf
-stopped-one changed asked was started out = has-set (λ t. isStopped changed (has asked t) (has was t) (has started t) (has out t))
+stopped-one x = has-set (λ t. isStopped (timerFacts x t))
+
+-- whether a timer runs afterwards
+running-one : (x : TimerSets) (t : PrivateTimer) → has (runningAfter x) t ≡ runsAfter (timerFacts x t)
+unfolding runningAfter
+running-one x = has-set (λ t. runsAfter (timerFacts x t))
 
 module _ (s : Settings) (p : PrivateRecord) (i : Input) (row : Row) where
   -- what the row does
   abbrev effect : Effect
   effect = effectOf row (p .state)
 
+  -- what the rules ask of the timers
+  abbrev sets : TimerSets
+  sets = timersBy (p .state) (p .running) (ranOut (i .event)) effect
+
+  -- what runs afterwards is what was started, and what ran and was neither stopped nor ran out
+  agree : (t : PrivateTimer) → has (carryOut s p i row .next .running) t
+      ≡ (has (carryOut s p i row .start) t || (has (p .running) t && (not (has (carryOut s p i row .stop) t) && not (has (ranOut (i .event)) t))))
+  unfolding carryOut
+  agree t =
+      running-one sets t
+      ∙ sym (λ j. has (sets .started) t || (has (p .running) t && (not (stopped-one sets t j) && not (has (ranOut (i .event)) t))))
+
   -- leaving a state stops each timer that runs there, if the row does not start it anew
   change-stops : (t : PrivateTimer) → changes (p .state) (carryOut s p i row .next .state) ≡ true → has (p .running) t ≡ true
       → has (carryOut s p i row .start) t ≡ false → has (ranOut (i .event)) t ≡ false → has (carryOut s p i row .stop) t ≡ true
   unfolding carryOut
   change-stops t a b c d =
-      stopped-one (changes (p .state) (effect .to)) (effect .stop) (p .running) (startedBy (p .state) effect) (ranOut (i .event)) t
-      ∙ change-stops-one (changes (p .state) (effect .to)) (has (effect .stop) t) (has (p .running) t) (has (startedBy (p .state) effect) t) (has (ranOut (i .event)) t) a b c d
+      stopped-one sets t ∙ change-stops-one (timerFacts sets t) a b c d
 
   -- no step stops the timer whose expiry it is about
   ran-out-never-stopped : (t : PrivateTimer) → has (ranOut (i .event)) t ≡ true → has (carryOut s p i row .stop) t ≡ false
   unfolding carryOut
   ran-out-never-stopped t e =
-      stopped-one (changes (p .state) (effect .to)) (effect .stop) (p .running) (startedBy (p .state) effect) (ranOut (i .event)) t
-      ∙ spares-one (changes (p .state) (effect .to)) (has (effect .stop) t) (has (p .running) t) (has (startedBy (p .state) effect) t) (has (ranOut (i .event)) t) e
+      stopped-one sets t ∙ spares-one (timerFacts sets t) e
 
   -- a counter without a running timer is 0
   counter-rests : (k : Counter) → has (carryOut s p i row .next .running) (timerOf k) ≡ false → countIn k (carryOut s p i row .next .counters) ≡ 0
@@ -69,6 +83,13 @@ module _ (s : Settings) (p : PrivateRecord) (i : Input) (row : Row) where
 -- ---- the same of the answer of a step that is not refused
 
 module _ (s : Settings) (p : PrivateRecord) (i : Input) (out : List ℕ) (e : stepNumber s p i out ≡ 0) where
+  -- what runs afterwards is what was started, and what ran and was neither stopped nor ran out
+  pub step-timers-agree : (t : PrivateTimer) → has (stepOf s p i out .next .running) t
+      ≡ (has (stepOf s p i out .start) t || (has (p .running) t && (not (has (stepOf s p i out .stop) t) && not (has (ranOut (i .event)) t))))
+  step-timers-agree t =
+      subst (λ (r : Stepped). has (r .next .running) t ≡ (has (r .start) t || (has (p .running) t && (not (has (r .stop) t) && not (has (ranOut (i .event)) t)))))
+      (sym (step-done s p i out e)) (agree s p i (rowOf s p i) t)
+
   -- leaving a state stops each timer that runs there, if the row does not start it anew
   pub step-change-stops : (t : PrivateTimer) → changes (p .state) (stepOf s p i out .next .state) ≡ true → has (p .running) t ≡ true
       → has (stepOf s p i out .start) t ≡ false → has (ranOut (i .event)) t ≡ false → has (stepOf s p i out .stop) t ≡ true

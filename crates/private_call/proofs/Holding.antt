@@ -18,7 +18,7 @@ use Rattle.call.proofs.Laws.{both, bothBools, at-bool}
 use Rattle.private_record.specs.Formed.{callNone, callRequest, fieldsGood, oneOwn, roleGood, usersGood, usersOf, callGood}
 use Rattle.private_record.specs.declared.states.State.{State}
 use Rattle.private_record.specs.declared.states.PrivateCall.{PrivateCall}
-use Rattle.private_rows.specs.Rows.{sameCause}
+use Rattle.private_rows.specs.Causes.{sameCause}
 use Rattle.private_rows.specs.declared.causes.Cause.{Cause}
 use Rattle.private_effects.specs.declared.Hold.{Hold}
 use Rattle.private_carried.specs.Carried.{callOf, withMedia, heldOf}

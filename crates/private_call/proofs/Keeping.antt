@@ -32,7 +32,7 @@ use Rattle.private_effects.specs.declared.Hold.{Hold}
 use Rattle.private_effects.specs.declared.Reason.{Reason}
 use Rattle.private_effects.specs.declared.Say.{Say}
 use Rattle.private_effects.specs.declared.Effect.{Effect}
-use Rattle.private_carried.specs.Carried.{ranOut, runningBy, stoppedBy, startedBy, callOf, heldOf, reasonNumber, reasonOr, sentOf, carryOut}
+use Rattle.private_carried.specs.Carried.{ranOut, timersBy, runningBy, callOf, heldOf, reasonNumber, reasonOr, sentOf, carryOut}
 use Rattle.private_call.proofs.Brought.{outOf, ran-out-of, Brings, brings, bringsCall}
 use Rattle.private_call.proofs.Settling.{mayHold, holdsOne, maySay, Sound, rows-sound}
 use Rattle.private_call.proofs.Counting.{counters-keep}
@@ -127,8 +127,8 @@ module _ (s : Settings) (p : PrivateRecord) (i : Input) (t : Taken s (wellFormed
       both (runningGood (effect .to) (runningBy (p .state) (p .running) (ranOut (i .event)) effect)) _
       (timers-at (rowOf s p i) (fits .state) (fits .running) (ran-out-of s (i .event)) sound)
       (both _ _
-      (counters-keep (p .running) (stoppedBy (p .state) (p .running) (ranOut (i .event)) effect) (ranOut (i .event)) (startedBy (p .state) effect)
-      (effect .again) (s .limits) (p .counters) (limits-good s (t .settings)) (fits .counters)) next-call)
+      (counters-keep (timersBy (p .state) (p .running) (ranOut (i .event)) effect) (effect .again) (s .limits) (p .counters)
+      (limits-good s (t .settings)) (fits .counters)) next-call)
 
   -- the parties of the setup request are in range
   other-good : bringsCall (causeOf s (i .event)) ≡ true → partiesGood (requestOf s (i .event) .parties) ≡ true

@@ -15,7 +15,7 @@ use Rattle.call.specs.declared.Settings.{Settings}
 use Rattle.call.specs.declared.Verdicts.{Verdicts}
 use Rattle.call.specs.declared.PrivateTimer.{PrivateTimer}
 use Rattle.call.specs.declared.Input.{Input}
-use Rattle.stepping.specs.Sending.{lineSent, sendNumber}
+use Rattle.stepping.specs.Sending.{lineSent, sendNumber, numberSending}
 use Rattle.stepping.proofs.Stepping.{Taken}
 use Rattle.private_record.specs.Phases.{has, noTimer, tfp2, tfp4, stateOf, runningOf, phaseIn, phaseOf}
 use Rattle.private_record.specs.Formed.{counterGood, wellFormed}
@@ -27,17 +27,18 @@ use Rattle.private_record.specs.declared.rows.Row.{Row}
 use Rattle.private_record.specs.declared.rows.Row.the-variants.{Discard, R3, R23}
 use Rattle.private_record.proofs.WellFormed.{Fit, fit}
 use Rattle.private_rows.specs.Causes.{causeOf, factsOf}
-use Rattle.private_rows.specs.Rows.{rowNumber, runs, rowIn, rowOf}
+use Rattle.private_rows.specs.Asking.{runs}
+use Rattle.private_rows.specs.Rows.{rowNumber, rowIn, rowOf}
 use Rattle.private_rows.specs.declared.causes.Cause.{Cause}
 use Rattle.private_rows.specs.declared.causes.Facts.{Facts}
 use Rattle.private_rows.proofs.Meets.{same-row, found-is-met, quiet-expiry}
 use Rattle.private_effects.specs.Effects.{effectOf}
 use Rattle.private_carried.specs.Carried.{startedOf, stoppedOf, runningAfter, runningBy, carryOut}
-use Rattle.private_call.specs.Step.{numberBeforeSending, doneOf, stepLine, refusedOf, discarded, movedOf, stepNumber, stepOf, stepBuffer}
+use Rattle.private_call.specs.Step.{numberBeforeSending, doneOf, stepLine, refusedOf, discarded, movedOf, answerMet, stepNumber, stepOf, stepBuffer}
 use Rattle.private_call.specs.declared.Stepped.{Stepped}
 use Rattle.private_call.specs.Running.{expiry, userAccepts}
 use Rattle.private_call.specs.NoReply.{Counter, cfp1, cfp3, cfp4, timerOf, phaseWhere}
-use Rattle.private_call.proofs.Steps.{stepFrom, tests-passed, step-passed, step-done, keeps-well-formed, discards}
+use Rattle.private_call.proofs.Steps.{buffer-lent, tests-passed, step-passed, step-done, answer-told, keeps-well-formed, discards}
 
 -- ---- a step by its row
 
@@ -45,8 +46,10 @@ use Rattle.private_call.proofs.Steps.{stepFrom, tests-passed, step-pass
 pub carries : (s : Settings) (p : PrivateRecord) (i : Input) (out : List ℕ) (row : Row) → numberBeforeSending s p i ≡ 0 → rowOf s p i ≡ row
     → sendNumber (carryOut s p i row .sent) (carryOut s p i row .next .call .media) out ≡ 0
     → stepOf s p i out ≡ movedOf row (carryOut s p i row) (length (lineSent (carryOut s p i row .sent) (carryOut s p i row .next .call .media)))
-unfolding stepOf
-carries s p i out row e r w = (λ j. stepFrom p out (e j) (r j) (carryOut s p i (r j))) ∙ rw (w) refl
+carries s p i out row e r w =
+    let done = carryOut s p i in
+    step-done s p i out ((λ j. numberSending (e j) (done (r j) .sent) (done (r j) .next .call .media) out) ∙ w)
+    ∙ (λ j. movedOf (r j) (done (r j)) (length (lineSent (done (r j) .sent) (done (r j) .next .call .media))))
 
 -- the next record of a step that is not refused
 pub next-done : (s : Settings) (p : PrivateRecord) (i : Input) (out : List ℕ) → stepNumber s p i out ≡ 0 → stepOf s p i out .next ≡ doneOf s p i .next
@@ -55,8 +58,7 @@ next-done s p i out e = ap (λ (x : Stepped). x .next) (step-done s p i out e)
 -- the line of a step that is not refused
 pub line-done : (s : Settings) (p : PrivateRecord) (i : Input) (out : List ℕ) → stepNumber s p i out ≡ 0
     → (stepOf s p i out .length ≡ length (stepLine s p i)) × (stepBuffer s p i out ≡ atFront (stepLine s p i) out)
-unfolding stepBuffer
-line-done s p i out e = (ap (λ (x : Stepped). x .length) (step-done s p i out e), rw (eq-eqb (stepNumber s p i out) 0 e) refl)
+line-done s p i out e = (ap (λ (x : Stepped). x .length) (step-done s p i out e), buffer-lent s p i out ∙ rw (eq-eqb (stepNumber s p i out) 0 e) refl)
 
 -- the row of a step that is not refused
 pub row-done : (s : Settings) (p : PrivateRecord) (i : Input) (out : List ℕ) → stepNumber s p i out ≡ 0 → stepOf s p i out .row ≡ rowNumber (rowOf s p i)
@@ -68,10 +70,11 @@ pub row-met : (s : Settings) (p : PrivateRecord) (i : Input) (out : List ℕ) (r
 unfolding stepOf
 row-met s p i out row f e = go (eqb (stepNumber s p i out) 0) refl e
   where
-    go : (b : Bool) → eqb (stepNumber s p i out) 0 ≡ b
-        → cond b (movedOf (rowOf s p i) (doneOf s p i) (length (stepLine s p i))) (refusedOf (stepNumber s p i out) p) .row ≡ rowNumber row
+    go : (b : Bool) → eqb (stepNumber s p i out) 0 ≡ b → cond b (answerMet s p i) (refusedOf (stepNumber s p i out) p) .row ≡ rowNumber row
         → (stepNumber s p i out ≡ 0) × (rowOf s p i ≡ row)
-    go true t h = (eqb-true (stepNumber s p i out) 0 t, same-row (rowOf s p i) row (eq-eqb (rowNumber (rowOf s p i)) (rowNumber row) h))
+    go true t h =
+        let told = sym (answer-told s p i .1) ∙ h in
+        (eqb-true (stepNumber s p i out) 0 t, same-row (rowOf s p i) row (eq-eqb (rowNumber (rowOf s p i)) (rowNumber row) told))
     go false t h = absurd (f (sym h))
 
 -- an expiry is refused by nothing but a bad setting, a record that is not well formed, or a lack of room

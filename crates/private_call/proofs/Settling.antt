@@ -10,7 +10,8 @@ use Rattle.private_record.specs.declared.states.State.{State}
 use Rattle.private_record.specs.declared.states.Phase.{Phase}
 use Rattle.private_record.specs.declared.states.Timers.{Timers}
 use Rattle.private_record.specs.declared.rows.Row.{Row}
-use Rattle.private_rows.specs.Rows.{rowNumber, sameCause, rowIn}
+use Rattle.private_rows.specs.Causes.{sameCause}
+use Rattle.private_rows.specs.Rows.{rowNumber, rowIn}
 use Rattle.private_rows.specs.declared.causes.Cause.{Cause}
 use Rattle.private_rows.specs.declared.causes.Facts.{Facts}
 use Rattle.private_rows.proofs.Meets.{each-row}

@@ -21,27 +21,23 @@ use Rattle.private_carried.specs.Carried.{carryOut}
 use Rattle.private_carried.specs.declared.Carried.{Carried}
 use Rattle.private_call.specs.declared.Stepped.{Stepped}
 
--- ---- the number
+-- ---- the number of a step that meets a row
 
 -- 8 at R1: the row is R1, and the identifier that the user names is the stored one
 abbrev pub identifierTaken : Settings → PrivateRecord → Event → Row → Bool
 identifierTaken s p e row = eqb (rowNumber row) 1 && sameIdentifier (requestOf s e .parties) (p .call .parties)
 
 -- the number of the tests before anything is sent, in their order: 7, 9, then 5 or 8, then the 8 of R1
-abbrev pub numberBeforeSending : Settings → PrivateRecord → Input → ℕ
-numberBeforeSending s p i = numberOfTests s (wellFormed s p) i (identifierTaken s p (i .event) (rowOf s p i))
+abbrev pub testsWith : Row → Settings → PrivateRecord → Input → ℕ
+testsWith row s p i = numberOfTests s (wellFormed s p) i (identifierTaken s p (i .event) row)
 
--- what carrying out the row that is met gives
-abbrev pub doneOf : Settings → PrivateRecord → Input → Carried
-doneOf s p i = carryOut s p i (rowOf s p i)
+-- the line that the row sends, no bytes where it sends nothing: with the media of the next record
+abbrev pub lineWith : Row → Settings → PrivateRecord → Input → List ℕ
+lineWith row s p i = lineSent (carryOut s p i row .sent) (carryOut s p i row .next .call .media)
 
--- the line that it sends, no bytes where it sends nothing: with the media of the next record
-abbrev pub stepLine : Settings → PrivateRecord → Input → List ℕ
-stepLine s p i = lineSent (doneOf s p i .sent) (doneOf s p i .next .call .media)
-
--- the number of a step: that of a test, else the writer's of what is sent
-abbrev pub stepNumber : Settings → PrivateRecord → Input → List ℕ → ℕ
-stepNumber s p i out = numberSending (numberBeforeSending s p i) (doneOf s p i .sent) (doneOf s p i .next .call .media) out
+-- the number of a step that meets this row: that of a test, else the writer's of what is sent
+abbrev pub numberWith : Row → Settings → PrivateRecord → Input → List ℕ → ℕ
+numberWith row s p i out = numberSending (testsWith row s p i) (carryOut s p i row .sent) (carryOut s p i row .next .call .media) out
 
 -- ---- the answer
 
@@ -57,12 +53,45 @@ discarded p = refusedOf 0 p
 abbrev pub movedOf : Row → Carried → ℕ → Stepped
 movedOf row d n = record { number = 0; row = rowNumber row; next = d .next; stop = d .stop; start = d .start; length = n }
 
--- the answer of a step
-unfoldable pub stepOf : Settings → PrivateRecord → Input → List ℕ → Stepped
-stepOf s p i out =
-    cond (eqb (stepNumber s p i out) 0) (movedOf (rowOf s p i) (doneOf s p i) (length (stepLine s p i)))
-    (refusedOf (stepNumber s p i out) p)
+-- what a row that is not refused answers: row 0 changes nothing, any other row is carried out
+abbrev pub answerWith : Row → Settings → PrivateRecord → Input → Stepped
+answerWith row s p i = cond (eqb (rowNumber row) 0) (discarded p) (movedOf row (carryOut s p i row) (length (lineWith row s p i)))
 
--- the buffer after it
+-- the answer of a step that meets this row: the row's, or a refusal with the number
+abbrev pub stepWith : Row → Settings → PrivateRecord → Input → List ℕ → Stepped
+stepWith row s p i out =
+    cond (eqb (numberWith row s p i out) 0) (answerWith row s p i) (refusedOf (numberWith row s p i out) p)
+
+-- the buffer after it: row 0 changes no byte; any other row has its line at the front, unless it is refused
+abbrev pub bufferWith : Row → Settings → PrivateRecord → Input → List ℕ → List ℕ
+bufferWith row s p i out = cond (eqb (rowNumber row) 0) out (lentAfter (numberWith row s p i out) (lineWith row s p i) out)
+
+-- ---- a step, by the row that is met
+
+-- what carrying it out gives
+abbrev pub doneOf : Settings → PrivateRecord → Input → Carried
+doneOf s p i = carryOut s p i (rowOf s p i)
+
+-- the line that it sends
+abbrev pub stepLine : Settings → PrivateRecord → Input → List ℕ
+stepLine s p i = lineWith (rowOf s p i) s p i
+
+-- the number before anything is sent
+abbrev pub numberBeforeSending : Settings → PrivateRecord → Input → ℕ
+numberBeforeSending s p i = testsWith (rowOf s p i) s p i
+
+-- the number
+abbrev pub stepNumber : Settings → PrivateRecord → Input → List ℕ → ℕ
+stepNumber s p i out = numberWith (rowOf s p i) s p i out
+
+-- the answer where it is 0
+abbrev pub answerMet : Settings → PrivateRecord → Input → Stepped
+answerMet s p i = answerWith (rowOf s p i) s p i
+
+-- the answer
+unfoldable pub stepOf : Settings → PrivateRecord → Input → List ℕ → Stepped
+stepOf s p i out = stepWith (rowOf s p i) s p i out
+
+-- the buffer
 unfoldable pub stepBuffer : Settings → PrivateRecord → Input → List ℕ → List ℕ
-stepBuffer s p i out = lentAfter (stepNumber s p i out) (stepLine s p i) out
+stepBuffer s p i out = bufferWith (rowOf s p i) s p i out

@@ -66,17 +66,36 @@ fn row_number(row: Row) -> u8
     }
 }
 
-// A refusal: the record as it was, no row, no timers, no line.
-fn refused(number: u8, stored: PrivateRecord) -> Stepped
-    ensures { λ r. ⌜ r ≡ refusedOf number stored ⌝ }
-{
-    Stepped {
-        number: number,
-        row: 0,
-        next: stored,
-        stop: Timers::NONE,
-        start: Timers::NONE,
-        length: 0,
+impl Stepped {
+    // A refusal: the record as it was, no row, no timers, no line.
+    fn refused(number: u8, stored: PrivateRecord) -> Stepped
+        ensures { λ r. ⌜ r ≡ refusedOf number stored ⌝ }
+    {
+        Stepped {
+            number: number,
+            row: 0,
+            next: stored,
+            stop: Timers::NONE,
+            start: Timers::NONE,
+            length: 0,
+        }
+    }
+
+    // A step that was carried out, with the length of its line.
+    fn moved(row: Row, done: Carried, written: Written) -> Stepped
+        ensures { λ r. ⌜ r ≡ movedOf row done (written .length) ⌝ }
+    {
+        let next = done.next;
+        let stop = done.stop;
+        let start = done.start;
+        Stepped {
+            number: 0,
+            row: row_number(row),
+            next: next,
+            stop: stop,
+            start: start,
+            length: written.length,
+        }
     }
 }
 
@@ -88,23 +107,6 @@ fn identifier_taken(settings: Settings, stored: PrivateRecord, event: Event, row
     (row_number(row) == 1) & (request.parties.identifier == stored.call.parties.identifier)
 }
 
-// A step that was carried out, with the length of its line.
-fn moved(row: Row, done: Carried, written: Written) -> Stepped
-    ensures { λ r. ⌜ r ≡ movedOf row done (written .length) ⌝ }
-{
-    let next = done.next;
-    let stop = done.stop;
-    let start = done.start;
-    Stepped {
-        number: 0,
-        row: row_number(row),
-        next: next,
-        stop: stop,
-        start: start,
-        length: written.length,
-    }
-}
-
 // A step of the private call machine.
 pub fn step(settings: Settings, stored: PrivateRecord, input: Input, out: &mut [u8]) -> Stepped
     ensures { λ r. ⌜ r ≡ stepOf settings stored input (now (out .entry)) ⌝ }
@@ -112,22 +114,22 @@ pub fn step(settings: Settings, stored: PrivateRecord, input: Input, out: &mut [
 {
     let number = number_before_row(settings, well_formed(settings, stored), input);
     if number != 0 {
-        return refused(number, stored);
+        return Stepped::refused(number, stored);
     }
     let event = input.event;
     let row = row_of(settings, stored, input);
     if row_number(row) == 0 {
-        return refused(0, stored);
+        return Stepped::refused(0, stored);
     }
     if identifier_taken(settings, stored, event, row) {
-        return refused(8, stored);
+        return Stepped::refused(8, stored);
     }
     let done = carry_out(settings, stored, input, row);
     let sent = done.sent;
     let media = done.next.call.media;
     let written = write_sent(sent, media, out);
     if written.number != 0 {
-        return refused(written.number, stored);
+        return Stepped::refused(written.number, stored);
     }
-    moved(row, done, written)
+    Stepped::moved(row, done, written)
 }

@@ -17,6 +17,7 @@ use Rattle.call.specs.declared.Event.{Event}
 use Rattle.call.specs.declared.Input.{Input}
 use Rattle.call.specs.declared.Request.{Request}
 use Rattle.call.specs.declared.Send.{Send}
+use Rattle.call.specs.declared.timers.TimerFacts.{TimerFacts}
 use Rattle.private_record.specs.Phases.{stateNumber, has, setOf, noTimer, tfp1, tfp2, tfp3, tfp4, tfp5, tfp7}
 use Rattle.private_record.specs.Formed.{noCall, callRequest}
 use Rattle.private_record.specs.declared.states.State.{State}
@@ -30,6 +31,8 @@ use Rattle.private_effects.specs.declared.Reason.{Reason}
 use Rattle.private_effects.specs.declared.Say.{Say}
 use Rattle.private_effects.specs.declared.Effect.{Effect}
 use Rattle.private_carried.specs.declared.Carried.{Carried}
+use Rattle.private_carried.specs.declared.timers.TimerSets.{TimerSets}
+use Rattle.private_carried.specs.declared.settled.CounterFacts.{CounterFacts}
 
 -- ---- the timers
 
@@ -69,13 +72,24 @@ startedOf state to start =
       tfp7 = start .tfp7 || (changes state to && eqb (stateNumber to) 1);
     }
 
+-- what the rules ask of one timer, from the sets and from whether the state changes
+abbrev pub timerFacts : TimerSets → PrivateTimer → TimerFacts
+timerFacts x t =
+    record {
+      «was_running» = has (x .«was_running») t;
+      «ran_out» = has (x .«ran_out») t;
+      «stop_asked» = has (x .«stop_asked») t;
+      started = has (x .started) t;
+      «state_changes» = x .«state_changes»;
+    }
+
 -- the timers that are stopped, by the rule for each
-unfoldable pub stoppedOf : Bool → Timers → Timers → Timers → Timers → Timers
-stoppedOf changed asked was started out = setOf (λ t. isStopped changed (has asked t) (has was t) (has started t) (has out t))
+unfoldable pub stoppedOf : TimerSets → Timers
+stoppedOf x = setOf (λ t. isStopped (timerFacts x t))
 
 -- the timers that run afterwards, by the rule for each
-unfoldable pub runningAfter : Timers → Timers → Timers → Timers → Timers
-runningAfter was stopped out started = setOf (λ t. runsAfter (has was t) (has stopped t) (has out t) (has started t))
+unfoldable pub runningAfter : TimerSets → Timers
+runningAfter x = setOf (λ t. runsAfter (timerFacts x t))
 
 -- ---- the counters
 
@@ -83,17 +97,17 @@ runningAfter was stopped out started = setOf (λ t. runsAfter (has was t) (has s
 abbrev pub oneMore : ℕ → ℕ → ℕ
 oneMore limit counter = cond (ltb counter limit) (counter + 1) counter
 
--- a counter whose timer does not run is 0; where its timer is started it is 1, or one more
-abbrev pub counterAfter : Bool → Bool → Bool → ℕ → ℕ → ℕ
-counterAfter runs started again limit counter = cond runs (cond started (cond again (oneMore limit counter) 1) counter) 0
+-- a counter whose timer does not run is 0; where its timer is started it is 1, or one more where the row says something again
+abbrev pub counterAfter : CounterFacts → ℕ
+counterAfter x = cond (x .runs) (cond (x .started) (cond (x .again) (oneMore (x .limit) (x .was)) 1) (x .was)) 0
 
 -- the three
 unfoldable pub countersAfter : Timers → Timers → Bool → Counters → Counters → Counters
 countersAfter running started again limits counters =
     record {
-      cfp1 = counterAfter (running .tfp1) (started .tfp1) again (limits .cfp1) (counters .cfp1);
-      cfp3 = counterAfter (running .tfp3) (started .tfp3) again (limits .cfp3) (counters .cfp3);
-      cfp4 = counterAfter (running .tfp4) (started .tfp4) again (limits .cfp4) (counters .cfp4);
+      cfp1 = counterAfter (record { runs = running .tfp1; started = started .tfp1; again = again; limit = limits .cfp1; was = counters .cfp1 });
+      cfp3 = counterAfter (record { runs = running .tfp3; started = started .tfp3; again = again; limit = limits .cfp3; was = counters .cfp3 });
+      cfp4 = counterAfter (record { runs = running .tfp4; started = started .tfp4; again = again; limit = limits .cfp4; was = counters .cfp4 });
     }
 
 -- ---- the call
@@ -146,13 +160,18 @@ sentOf s Say.RejectOther call other = Send.Message (Reject other (reasonOr s Rea
 abbrev pub startedBy : State → Effect → Timers
 startedBy state x = startedOf state (x .to) (x .start)
 
--- the timers that it stops where these run
+-- what the rules ask of the timers where some run, one ran out, and a row is carried out
+abbrev pub timersBy : State → Timers → Timers → Effect → TimerSets
+timersBy state was out x =
+    record { «was_running» = was; «ran_out» = out; «stop_asked» = x .stop; started = startedBy state x; «state_changes» = changes state (x .to) }
+
+-- the timers that it stops
 abbrev pub stoppedBy : State → Timers → Timers → Effect → Timers
-stoppedBy state was out x = stoppedOf (changes state (x .to)) (x .stop) was (startedBy state x) out
+stoppedBy state was out x = stoppedOf (timersBy state was out x)
 
 -- the timers that run afterwards
 abbrev pub runningBy : State → Timers → Timers → Effect → Timers
-runningBy state was out x = runningAfter was (stoppedBy state was out x) out (startedBy state x)
+runningBy state was out x = runningAfter (timersBy state was out x)
 
 -- the next record
 abbrev pub nextBy : Settings → PrivateRecord → Timers → Request → Media → Effect → PrivateRecord

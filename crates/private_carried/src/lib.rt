@@ -4,6 +4,7 @@ mod timers;
 
 ghost use mathlib.Core.Path.{_≡_};
 ghost use Rattle.private_carried.specs.Carried.{carryOut};
+use crate::timers::TimerSets;
 use call::Input;
 use call::Send;
 use call::Settings;
@@ -42,8 +43,14 @@ pub fn carry_out(settings: Settings, stored: PrivateRecord, input: Input, row: R
     let other = request.parties;
     let out = timers::ran_out(event);
     let started = timers::started(state, to, start);
-    let stopped = timers::stopped(timers::state_changes(state, to), asked, was, started, out);
-    let running = timers::running_after(was, stopped, out, started);
+    let sets = TimerSets {
+        was_running: was,
+        ran_out: out,
+        stop_asked: asked,
+        started: started,
+        state_changes: timers::state_changes(state, to),
+    };
+    let running = sets.running_after();
     let held = settled::held(hold, call, request, media);
     Carried {
         next: PrivateRecord {
@@ -52,7 +59,7 @@ pub fn carry_out(settings: Settings, stored: PrivateRecord, input: Input, row: R
             counters: settled::counters_after(running, started, effect.again, limits, counters),
             call: held,
         },
-        stop: stopped,
+        stop: sets.stopped(),
         start: started,
         sent: settled::sent(settings, say, held, other),
     }

@@ -8,7 +8,6 @@ use call::Counters;
 use call::Request;
 use call::Send;
 use call::Settings;
-use call::requests::private_request;
 use frame::Media;
 use frame::Message;
 use frame::Parties;
@@ -29,18 +28,38 @@ fn one_more(limit: u8, counter: u8) -> u8
     }
 }
 
-// A counter: 0 where its timer does not run; 1 or one more where its timer is started.
-fn counter_after(runs: bool, started: bool, again: bool, limit: u8, counter: u8) -> u8
-    ensures { λ r. ⌜ r ≡ counterAfter runs started again limit counter ⌝ }
-{
-    if runs {
-        if started {
-            if again { one_more(limit, counter) } else { 1 }
+// What the rules ask of one counter.
+pub struct CounterFacts {
+    // Its timer runs after the step.
+    pub runs: bool,
+    // The row starts its timer.
+    pub started: bool,
+    // The row says again what got no reply.
+    pub again: bool,
+    // Its limit.
+    pub limit: u8,
+    // What it was.
+    pub was: u8,
+}
+
+impl CounterFacts {
+    // What it is after the step: 0 where its timer does not run; where its timer is started, 1 or one more.
+    fn after(self) -> u8
+        ensures { λ r. ⌜ r ≡ counterAfter self ⌝ }
+    {
+        if self.runs {
+            if self.started {
+                if self.again {
+                    one_more(self.limit, self.was)
+                } else {
+                    Counters::LEAST
+                }
+            } else {
+                self.was
+            }
         } else {
-            counter
+            0
         }
-    } else {
-        0
     }
 }
 
@@ -55,27 +74,27 @@ pub(crate) fn counters_after(
     ensures { λ r. ⌜ r ≡ countersAfter running started again limits counters ⌝ }
 {
     Counters {
-        cfp1: counter_after(
-            running.tfp1,
-            started.tfp1,
-            again,
-            limits.cfp1,
-            counters.cfp1,
-        ),
-        cfp3: counter_after(
-            running.tfp3,
-            started.tfp3,
-            again,
-            limits.cfp3,
-            counters.cfp3,
-        ),
-        cfp4: counter_after(
-            running.tfp4,
-            started.tfp4,
-            again,
-            limits.cfp4,
-            counters.cfp4,
-        ),
+        cfp1: CounterFacts {
+            runs: running.tfp1,
+            started: started.tfp1,
+            again: again,
+            limit: limits.cfp1,
+            was: counters.cfp1,
+        }.after(),
+        cfp3: CounterFacts {
+            runs: running.tfp3,
+            started: started.tfp3,
+            again: again,
+            limit: limits.cfp3,
+            was: counters.cfp3,
+        }.after(),
+        cfp4: CounterFacts {
+            runs: running.tfp4,
+            started: started.tfp4,
+            again: again,
+            limit: limits.cfp4,
+            was: counters.cfp4,
+        }.after(),
     }
 }
 
@@ -134,7 +153,7 @@ fn reason_number(reason: Reason) -> u8
 fn reason_or(settings: Settings, reason: Reason) -> u8
     ensures { λ r. ⌜ r ≡ reasonOr settings reason ⌝ }
 {
-    if settings.restrict {
+    if settings.restricted() {
         reason_number(Reason::Failed)
     } else {
         reason_number(reason)
@@ -146,7 +165,7 @@ fn setup_request(call: PrivateCall) -> Message
     ensures { λ r. ⌜ r ≡ asMessage (callRequest call) ⌝ }
 {
     let parties = call.parties;
-    let request = private_request(parties, call.commencement, call.pck_id);
+    let request = Request::private(parties, call.commencement, call.pck_id);
     let same_parties = request.parties;
     let setup = request.setup;
     Message::SetupRequest(same_parties, setup)

@@ -1,12 +1,12 @@
 // The general rules, over all rows: what becomes of the timers.
 ghost use mathlib.Core.Path.{_≡_};
-ghost use Rattle.call.specs.Timing.{isStopped, runsAfter};
-ghost use Rattle.private_record.specs.Phases.{stateNumber};
+ghost use Rattle.private_record.specs.Phases.{stateNumber, has as hasTimer};
 ghost use Rattle.private_carried.specs.Carried.{ranOut, timerOut, privateTimerOut, changes, startedOf};
-ghost use Rattle.private_carried.specs.Carried.{stoppedOf, runningAfter};
+ghost use Rattle.private_carried.specs.Carried.{timerFacts, stoppedOf, runningAfter};
 use call::Event;
 use call::PrivateTimer;
 use call::Timer;
+use call::timers::TimerFacts;
 use private_record::states::State;
 use private_record::states::Timers;
 
@@ -81,51 +81,72 @@ pub(crate) fn started(state: State, to: State, start: Timers) -> Timers
     }
 }
 
-// Whether a timer is stopped: it runs and did not just run out, and the row asks for it, or the state changes and it is
-// not started again.
-fn is_stopped(changed: bool, asked: bool, was: bool, started: bool, out: bool) -> bool
-    ensures { λ r. ⌜ r ≡ isStopped changed asked was started out ⌝ }
+// Whether a timer is in a set.
+fn has(timers: Timers, timer: PrivateTimer) -> bool
+    ensures { λ r. ⌜ r ≡ hasTimer timers timer ⌝ }
 {
-    was & (!out & (asked | (changed & !started)))
-}
-
-// What stops.
-pub(crate) fn stopped(
-    changed: bool,
-    asked: Timers,
-    was: Timers,
-    started: Timers,
-    out: Timers,
-) -> Timers
-    ensures { λ r. ⌜ r ≡ stoppedOf changed asked was started out ⌝ }
-{
-    Timers {
-        tfp1: is_stopped(changed, asked.tfp1, was.tfp1, started.tfp1, out.tfp1),
-        tfp2: is_stopped(changed, asked.tfp2, was.tfp2, started.tfp2, out.tfp2),
-        tfp3: is_stopped(changed, asked.tfp3, was.tfp3, started.tfp3, out.tfp3),
-        tfp4: is_stopped(changed, asked.tfp4, was.tfp4, started.tfp4, out.tfp4),
-        tfp5: is_stopped(changed, asked.tfp5, was.tfp5, started.tfp5, out.tfp5),
-        tfp7: is_stopped(changed, asked.tfp7, was.tfp7, started.tfp7, out.tfp7),
+    match timer {
+        PrivateTimer::Tfp1 => timers.tfp1,
+        PrivateTimer::Tfp2 => timers.tfp2,
+        PrivateTimer::Tfp3 => timers.tfp3,
+        PrivateTimer::Tfp4 => timers.tfp4,
+        PrivateTimer::Tfp5 => timers.tfp5,
+        PrivateTimer::Tfp7 => timers.tfp7,
     }
 }
 
-// Whether a timer runs afterwards: it was started, or it ran and was neither stopped nor ran out.
-fn runs_after(was: bool, stopped: bool, out: bool, started: bool) -> bool
-    ensures { λ r. ⌜ r ≡ runsAfter was stopped out started ⌝ }
-{
-    started | (was & (!stopped & !out))
+// What the rules ask of the timers: the sets, and whether the state changes.
+pub struct TimerSets {
+    pub was_running: Timers,
+    pub ran_out: Timers,
+    pub stop_asked: Timers,
+    pub started: Timers,
+    pub state_changes: bool,
 }
 
-// What runs afterwards.
-pub(crate) fn running_after(was: Timers, stopped: Timers, out: Timers, started: Timers) -> Timers
-    ensures { λ r. ⌜ r ≡ runningAfter was stopped out started ⌝ }
-{
-    Timers {
-        tfp1: runs_after(was.tfp1, stopped.tfp1, out.tfp1, started.tfp1),
-        tfp2: runs_after(was.tfp2, stopped.tfp2, out.tfp2, started.tfp2),
-        tfp3: runs_after(was.tfp3, stopped.tfp3, out.tfp3, started.tfp3),
-        tfp4: runs_after(was.tfp4, stopped.tfp4, out.tfp4, started.tfp4),
-        tfp5: runs_after(was.tfp5, stopped.tfp5, out.tfp5, started.tfp5),
-        tfp7: runs_after(was.tfp7, stopped.tfp7, out.tfp7, started.tfp7),
+impl TimerSets {
+    // What they ask of one timer.
+    fn of(self, timer: PrivateTimer) -> TimerFacts
+        ensures { λ r. ⌜ r ≡ timerFacts self timer ⌝ }
+    {
+        let was_running = self.was_running;
+        let ran_out = self.ran_out;
+        let stop_asked = self.stop_asked;
+        let started = self.started;
+        TimerFacts {
+            was_running: has(was_running, timer),
+            ran_out: has(ran_out, timer),
+            stop_asked: has(stop_asked, timer),
+            started: has(started, timer),
+            state_changes: self.state_changes,
+        }
+    }
+
+    // What stops.
+    pub(crate) fn stopped(self) -> Timers
+        ensures { λ r. ⌜ r ≡ stoppedOf self ⌝ }
+    {
+        Timers {
+            tfp1: self.of(PrivateTimer::Tfp1).is_stopped(),
+            tfp2: self.of(PrivateTimer::Tfp2).is_stopped(),
+            tfp3: self.of(PrivateTimer::Tfp3).is_stopped(),
+            tfp4: self.of(PrivateTimer::Tfp4).is_stopped(),
+            tfp5: self.of(PrivateTimer::Tfp5).is_stopped(),
+            tfp7: self.of(PrivateTimer::Tfp7).is_stopped(),
+        }
+    }
+
+    // What runs afterwards.
+    pub(crate) fn running_after(self) -> Timers
+        ensures { λ r. ⌜ r ≡ runningAfter self ⌝ }
+    {
+        Timers {
+            tfp1: self.of(PrivateTimer::Tfp1).runs_after(),
+            tfp2: self.of(PrivateTimer::Tfp2).runs_after(),
+            tfp3: self.of(PrivateTimer::Tfp3).runs_after(),
+            tfp4: self.of(PrivateTimer::Tfp4).runs_after(),
+            tfp5: self.of(PrivateTimer::Tfp5).runs_after(),
+            tfp7: self.of(PrivateTimer::Tfp7).runs_after(),
+        }
     }
 }

@@ -57,73 +57,75 @@ pub struct Effect {
     pub say: Say,
 }
 
-// A row that enters a state.
-fn enters(to: State, start: Timers, hold: Hold, say: Say) -> Effect
-    ensures { λ r. ⌜ r ≡ entersOf to start hold say ⌝ }
-{
-    Effect {
-        to: to,
-        stop: Timers::NONE,
-        start: start,
-        again: false,
-        hold: hold,
-        say: say,
+impl Effect {
+    // A row that enters a state.
+    fn enters(to: State, start: Timers, hold: Hold, say: Say) -> Effect
+        ensures { λ r. ⌜ r ≡ entersOf to start hold say ⌝ }
+    {
+        Effect {
+            to: to,
+            stop: Timers::NONE,
+            start: start,
+            again: false,
+            hold: hold,
+            say: say,
+        }
     }
-}
 
-// A row that stores the setup request and enters a state.
-fn takes(to: State, start: Timers, say: Say) -> Effect
-    ensures { λ r. ⌜ r ≡ takesOf to start say ⌝ }
-{
-    enters(to, start, Hold::Request, say)
-}
-
-// A row that ends what was, and enters P1.
-fn ends(say: Say) -> Effect
-    ensures { λ r. ⌜ r ≡ endsOf say ⌝ }
-{
-    enters(State::P1, Timers::NONE, Hold::Keep, say)
-}
-
-// A row that leaves state and timers as they are.
-fn stays(state: State, hold: Hold, say: Say) -> Effect
-    ensures { λ r. ⌜ r ≡ staysOf state hold say ⌝ }
-{
-    Effect {
-        to: state,
-        stop: Timers::NONE,
-        start: Timers::NONE,
-        again: false,
-        hold: hold,
-        say: say,
+    // A row that stores the setup request and enters a state.
+    fn takes(to: State, start: Timers, say: Say) -> Effect
+        ensures { λ r. ⌜ r ≡ takesOf to start say ⌝ }
+    {
+        Effect::enters(to, start, Hold::Request, say)
     }
-}
 
-// A row that says again what got no reply.
-fn repeats(state: State, start: Timers, say: Say) -> Effect
-    ensures { λ r. ⌜ r ≡ repeatsOf state start say ⌝ }
-{
-    Effect {
-        to: state,
-        stop: Timers::NONE,
-        start: start,
-        again: true,
-        hold: Hold::Keep,
-        say: say,
+    // A row that ends what was, and enters P1.
+    fn ends(say: Say) -> Effect
+        ensures { λ r. ⌜ r ≡ endsOf say ⌝ }
+    {
+        Effect::enters(State::P1, Timers::NONE, Hold::Keep, say)
     }
-}
 
-// A row that puts one timer in another's place.
-fn turns(state: State, stop: Timers, start: Timers, say: Say) -> Effect
-    ensures { λ r. ⌜ r ≡ turnsOf state stop start say ⌝ }
-{
-    Effect {
-        to: state,
-        stop: stop,
-        start: start,
-        again: false,
-        hold: Hold::Keep,
-        say: say,
+    // A row that leaves state and timers as they are.
+    fn stays(state: State, hold: Hold, say: Say) -> Effect
+        ensures { λ r. ⌜ r ≡ staysOf state hold say ⌝ }
+    {
+        Effect {
+            to: state,
+            stop: Timers::NONE,
+            start: Timers::NONE,
+            again: false,
+            hold: hold,
+            say: say,
+        }
+    }
+
+    // A row that says again what got no reply.
+    fn repeats(state: State, start: Timers, say: Say) -> Effect
+        ensures { λ r. ⌜ r ≡ repeatsOf state start say ⌝ }
+    {
+        Effect {
+            to: state,
+            stop: Timers::NONE,
+            start: start,
+            again: true,
+            hold: Hold::Keep,
+            say: say,
+        }
+    }
+
+    // A row that puts one timer in another's place.
+    fn turns(state: State, stop: Timers, start: Timers, say: Say) -> Effect
+        ensures { λ r. ⌜ r ≡ turnsOf state stop start say ⌝ }
+    {
+        Effect {
+            to: state,
+            stop: stop,
+            start: start,
+            again: false,
+            hold: Hold::Keep,
+            say: say,
+        }
     }
 }
 
@@ -132,35 +134,35 @@ pub fn effect_of(row: Row, state: State) -> Effect
     ensures { λ r. ⌜ r ≡ effectOf row state ⌝ }
 {
     match row {
-        Row::Discard => stays(state, Hold::Keep, Say::Nothing),
-        Row::R1 => takes(State::P2, Timers::TFP1, Say::SetupRequest),
-        Row::R2 => repeats(state, Timers::TFP1, Say::SetupRequest),
-        Row::R3 => ends(Say::Nothing),
-        Row::R4 => turns(state, Timers::TFP1, Timers::TFP2, Say::Nothing),
-        Row::R5 => enters(State::P4, Timers::TFP5, Hold::Media, Say::AcceptAck),
-        Row::R6 => ends(Say::Nothing),
-        Row::R7 => ends(Say::Nothing),
-        Row::R8 => enters(State::P3, Timers::TFP3, Hold::Keep, Say::Release),
-        Row::R9 => enters(State::P3, Timers::TFP3, Hold::Keep, Say::Release),
-        Row::R10 => repeats(state, Timers::TFP3, Say::Release),
-        Row::R11 => ends(Say::Nothing),
-        Row::R12 => ends(Say::Nothing),
-        Row::R13 => ends(Say::ReleaseAck),
-        Row::R14 => stays(state, Hold::Keep, Say::ReleaseAck),
-        Row::R15 => ends(Say::Nothing),
-        Row::R16 => repeats(state, Timers::TFP4, Say::Accept),
-        Row::R17 => ends(Say::Nothing),
-        Row::R18 => enters(State::P4, Timers::TFP5, Hold::Keep, Say::Nothing),
-        Row::R19 => takes(State::P1, Timers::TFP7, Say::Reject(Reason::MediaFailure)),
-        Row::R20 => takes(State::P5, Timers::TFP4, Say::Accept),
-        Row::R21 => stays(state, Hold::Request, Say::Reject(Reason::SecurityFailure)),
-        Row::R22 => takes(State::P5, Timers::TFP2, Say::Ringing),
-        Row::R23 => turns(state, Timers::TFP2, Timers::TFP4, Say::Accept),
-        Row::R24 => ends(Say::Reject(Reason::SecurityFailure)),
-        Row::R25 => ends(Say::Reject(Reason::Reject)),
-        Row::R26 => ends(Say::Reject(Reason::Failed)),
-        Row::R27 => stays(state, Hold::Keep, Say::RejectOther),
-        Row::R28 => enters(State::P0, Timers::NONE, Hold::Clear, Say::Nothing),
-        Row::R29 => stays(state, Hold::Keep, Say::AcceptAck),
+        Row::Discard => Effect::stays(state, Hold::Keep, Say::Nothing),
+        Row::R1 => Effect::takes(State::P2, Timers::TFP1, Say::SetupRequest),
+        Row::R2 => Effect::repeats(state, Timers::TFP1, Say::SetupRequest),
+        Row::R3 => Effect::ends(Say::Nothing),
+        Row::R4 => Effect::turns(state, Timers::TFP1, Timers::TFP2, Say::Nothing),
+        Row::R5 => Effect::enters(State::P4, Timers::TFP5, Hold::Media, Say::AcceptAck),
+        Row::R6 => Effect::ends(Say::Nothing),
+        Row::R7 => Effect::ends(Say::Nothing),
+        Row::R8 => Effect::enters(State::P3, Timers::TFP3, Hold::Keep, Say::Release),
+        Row::R9 => Effect::enters(State::P3, Timers::TFP3, Hold::Keep, Say::Release),
+        Row::R10 => Effect::repeats(state, Timers::TFP3, Say::Release),
+        Row::R11 => Effect::ends(Say::Nothing),
+        Row::R12 => Effect::ends(Say::Nothing),
+        Row::R13 => Effect::ends(Say::ReleaseAck),
+        Row::R14 => Effect::stays(state, Hold::Keep, Say::ReleaseAck),
+        Row::R15 => Effect::ends(Say::Nothing),
+        Row::R16 => Effect::repeats(state, Timers::TFP4, Say::Accept),
+        Row::R17 => Effect::ends(Say::Nothing),
+        Row::R18 => Effect::enters(State::P4, Timers::TFP5, Hold::Keep, Say::Nothing),
+        Row::R19 => Effect::takes(State::P1, Timers::TFP7, Say::Reject(Reason::MediaFailure)),
+        Row::R20 => Effect::takes(State::P5, Timers::TFP4, Say::Accept),
+        Row::R21 => Effect::stays(state, Hold::Request, Say::Reject(Reason::SecurityFailure)),
+        Row::R22 => Effect::takes(State::P5, Timers::TFP2, Say::Ringing),
+        Row::R23 => Effect::turns(state, Timers::TFP2, Timers::TFP4, Say::Accept),
+        Row::R24 => Effect::ends(Say::Reject(Reason::SecurityFailure)),
+        Row::R25 => Effect::ends(Say::Reject(Reason::Reject)),
+        Row::R26 => Effect::ends(Say::Reject(Reason::Failed)),
+        Row::R27 => Effect::stays(state, Hold::Keep, Say::RejectOther),
+        Row::R28 => Effect::enters(State::P0, Timers::NONE, Hold::Clear, Say::Nothing),
+        Row::R29 => Effect::stays(state, Hold::Keep, Say::AcceptAck),
     }
 }

@@ -9,10 +9,9 @@ use crate::states::State;
 use crate::states::Timers;
 use crate::states::same_timers;
 use call::Counters;
+use call::Request;
 use call::Settings;
-use call::requests::private_request;
 use frame::Message;
-use frame::carried::media_none;
 use frame::range::in_range;
 
 // What runs in a state: of the two timers that may run in P2, and in P5, the one that does.
@@ -49,7 +48,7 @@ fn counter_good(runs: bool, limit: u8, counter: u8) -> bool
     ensures { λ r. ⌜ r ≡ counterGood runs limit counter ⌝ }
 {
     if runs {
-        (1 <= counter) & (counter <= limit)
+        (Counters::LEAST <= counter) & (counter <= limit)
     } else {
         counter == 0
     }
@@ -64,16 +63,30 @@ pub(crate) fn counters_good(running: Timers, limits: Counters, counters: Counter
             & counter_good(running.tfp4, limits.cfp4, counters.cfp4))
 }
 
-// Every field of the call is 0.
-fn no_call(call: PrivateCall) -> bool
-    ensures { λ r. ⌜ r ≡ callNone call ⌝ }
-{
-    let parties = call.parties;
-    let media = call.media;
-    (parties.identifier == 0)
-        & ((parties.caller == 0)
-            & ((parties.callee == 0)
-                & ((call.commencement == 0) & (media_none(media) & (call.pck_id == 0)))))
+impl PrivateCall {
+    // Every field is 0.
+    fn is_none(self) -> bool
+        ensures { λ r. ⌜ r ≡ callNone self ⌝ }
+    {
+        let parties = self.parties;
+        let media = self.media;
+        (parties.identifier == 0)
+            & ((parties.caller == 0)
+                & ((parties.callee == 0)
+                    & ((self.commencement == 0) & (media.is_none() & (self.pck_id == 0)))))
+    }
+
+    // Every field is in range: it is the call of a setup request.
+    fn in_range(self) -> bool
+        ensures { λ r. ⌜ r ≡ fieldsGood self ⌝ }
+    {
+        let parties = self.parties;
+        let media = self.media;
+        let request = Request::private(parties, self.commencement, self.pck_id);
+        let same_parties = request.parties;
+        let setup = request.setup;
+        in_range(Message::SetupRequest(same_parties, setup), media)
+    }
 }
 
 // Own is the caller or the callee, and not both.
@@ -83,17 +96,19 @@ fn one_own(caller: bool, callee: bool) -> bool
     (caller & !callee) | (!caller & callee)
 }
 
-// The state is P0.
-fn start_stop(state: State) -> bool
-    ensures { λ r. ⌜ r ≡ eqb (stateNumber state) 0 ⌝ }
-{
-    match state {
-        State::P0 => true,
-        State::P1 => false,
-        State::P2 => false,
-        State::P3 => false,
-        State::P4 => false,
-        State::P5 => false,
+impl State {
+    // The state is P0.
+    fn is_start_stop(self) -> bool
+        ensures { λ r. ⌜ r ≡ eqb (stateNumber self) 0 ⌝ }
+    {
+        match self {
+            State::P0 => true,
+            State::P1 => false,
+            State::P2 => false,
+            State::P3 => false,
+            State::P4 => false,
+            State::P5 => false,
+        }
     }
 }
 
@@ -111,18 +126,6 @@ fn role_good(state: State, caller: bool, callee: bool) -> bool
     }
 }
 
-// Every field of the call is in range: it is the call of a setup request.
-fn fields_good(call: PrivateCall) -> bool
-    ensures { λ r. ⌜ r ≡ fieldsGood call ⌝ }
-{
-    let parties = call.parties;
-    let media = call.media;
-    let request = private_request(parties, call.commencement, call.pck_id);
-    let same_parties = request.parties;
-    let setup = request.setup;
-    in_range(Message::SetupRequest(same_parties, setup), media)
-}
-
 // The call: none, in P0 alone; or every field in range, and own the one that it must be.
 pub(crate) fn call_good(settings: Settings, state: State, call: PrivateCall) -> bool
     ensures { λ r. ⌜ r ≡ callGood settings state call ⌝ }
@@ -132,8 +135,8 @@ pub(crate) fn call_good(settings: Settings, state: State, call: PrivateCall) -> 
     let caller = parties.caller == own;
     let callee = parties.callee == own;
     if parties.identifier == 0 {
-        start_stop(state) & no_call(call)
+        state.is_start_stop() & call.is_none()
     } else {
-        fields_good(call) & (one_own(caller, callee) & role_good(state, caller, callee))
+        call.in_range() & (one_own(caller, callee) & role_good(state, caller, callee))
     }
 }

@@ -132,6 +132,13 @@ impl PrivateRecord {
         counters: Counters::ZERO,
         call: PrivateCall::NONE,
     };
+
+    // The cleared record, which a host begins with.
+    pub fn cleared() -> PrivateRecord
+        ensures { λ r. ⌜ r ≡ clearedRecord ⌝ }
+    {
+        PrivateRecord::CLEARED
+    }
 }
 
 // A state with its running timers: P2 and P5 have two phases each.
@@ -144,13 +151,6 @@ pub enum Phase {
     P4,
     P5Tfp2,
     P5Tfp4,
-}
-
-// The cleared record.
-pub fn cleared_record() -> PrivateRecord
-    ensures { λ r. ⌜ r ≡ clearedRecord ⌝ }
-{
-    PrivateRecord::CLEARED
 }
 
 // Whether two sets have the same timers.

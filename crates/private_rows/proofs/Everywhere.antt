@@ -95,14 +95,14 @@ at-cause q t Cause.Other = nth (causeTests q) 17 t
 
 -- the facts as Bools
 abbrev bools : Facts → List Bool
-bools x = x .same ∷ x .media ∷ x .manual ∷ x .trusted ∷ x .«own_caller» ∷ x .under ∷ []
+bools x = x .same ∷ x .«media_verdict» ∷ x .manual ∷ x .trusted ∷ x .«own_caller» ∷ x .under ∷ []
 
 -- and back
 abbrev ofBools : List Bool → Facts
 ofBools bs =
     record {
       same = getD bs 0 true;
-      media = getD bs 1 true;
+      «media_verdict» = getD bs 1 true;
       manual = getD bs 2 true;
       trusted = getD bs 3 true;
       «own_caller» = getD bs 4 true;
@@ -122,7 +122,7 @@ record Fact : Type 0 where
 abbrev sameFact : Fact
 sameFact = record { place = 0; kept = λ x. refl }
 
--- media can be set up
+-- the host's verdict: media can be set up
 abbrev mediaFact : Fact
 mediaFact = record { place = 1; kept = λ x. refl }
 

@@ -110,15 +110,42 @@ pckAsked (Event.Message m) r stored = r .setup .«pck_id»
 abbrev pub trusted : ℕ → Verdicts → Bool
 trusted pck v = eqb pck 0 || v .signature
 
--- what the rows ask: whether the message is the same, whether media can be set up, whether the request is manual, whether it is trusted,
--- whether the stored caller is own, whether the counter that counts is under its limit
+-- what the rows ask: whether the message is the same, whether the host says that media can be set up, whether the request is manual,
+-- whether it is trusted, whether the stored caller is own, whether the counter that counts is under its limit
 abbrev pub factsOf : Settings → Phase → Counters → PrivateCall → Input → Facts
 factsOf s f counters call i =
     record {
       same = sameOf (i .event) (call .parties);
-      media = i .verdicts .media;
+      «media_verdict» = i .verdicts .media;
       manual = eqb (requestOf s (i .event) .setup .commencement) 1;
       trusted = trusted (pckAsked (i .event) (requestOf s (i .event)) (call .«pck_id»)) (i .verdicts);
       «own_caller» = eqb (call .parties .caller) (s .«own_user»);
       under = ltb (countOf f counters) (countOf f (s .limits));
     }
+
+-- ---- causes told apart
+
+-- the causes by numbers, to tell them apart
+abbrev pub causeNumber : Cause → ℕ
+causeNumber Cause.UserStarts = 0
+causeNumber Cause.UserEnds = 1
+causeNumber Cause.UserAccepts = 2
+causeNumber Cause.UserRejects = 3
+causeNumber Cause.Tfp1Expires = 4
+causeNumber Cause.Tfp2Expires = 5
+causeNumber Cause.Tfp3Expires = 6
+causeNumber Cause.Tfp4Expires = 7
+causeNumber Cause.Tfp5Expires = 8
+causeNumber Cause.Tfp7Expires = 9
+causeNumber Cause.SetupHeard = 10
+causeNumber Cause.RingingHeard = 11
+causeNumber Cause.AcceptHeard = 12
+causeNumber Cause.RejectHeard = 13
+causeNumber Cause.ReleaseHeard = 14
+causeNumber Cause.ReleaseAckHeard = 15
+causeNumber Cause.AcceptAckHeard = 16
+causeNumber Cause.Other = 17
+
+-- two causes are the same
+abbrev pub sameCause : Cause → Cause → Bool
+sameCause c d = eqb (causeNumber c) (causeNumber d)

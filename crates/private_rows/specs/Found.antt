@@ -1,4 +1,5 @@
--- How the code finds the row: by the cause, then by the phase. Assumes nothing.
+-- Nobody has to believe this file: it says how the code finds the row, and `found-is-met` shows that it is the row of Rows.antt.
+-- The code looks at the cause first, then at the phase. Assumes nothing.
 use Prim.Native.Nat.{ℕ}
 use mathlib.Core.Bool.{Bool, cond, not, _&&_, _||_}
 use lib.Dec.{eqb, leb}
@@ -46,11 +47,11 @@ either asked row askedElse other = cond asked row (cond askedElse other Discard)
 
 -- the row of a setup request that counts and is not the same
 abbrev pub setupRow : Bool → Facts → Row
-setupRow early x = cond (not early) R27 (cond (not (x .media)) R19 (cond (x .manual) R22 (cond (x .trusted) R20 R21)))
+setupRow early x = cond (not early) R27 (cond (not (x .«media_verdict»)) R19 (cond (x .manual) R22 (cond (x .trusted) R20 R21)))
 
 -- the row of an accept
 abbrev pub acceptRow : At → Facts → Row
-acceptRow at x = either (at .p2 && (x .same && x .media)) R5 (at .p4 && (x .«own_caller» && x .same)) R29
+acceptRow at x = either (at .p2 && (x .same && x .«media_verdict»)) R5 (at .p4 && (x .«own_caller» && x .same)) R29
 
 -- the row by the cause
 abbrev pub foundAt : At → Cause → Facts → Row

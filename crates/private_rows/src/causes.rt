@@ -46,8 +46,8 @@ pub enum Cause {
 pub struct Facts {
     // The message is of the stored call.
     pub same: bool,
-    // Media can be set up.
-    pub media: bool,
+    // The host's verdict: media can be set up.
+    pub media_verdict: bool,
     // The request asks for manual commencement.
     pub manual: bool,
     // There is no security, or the signature is good.
@@ -224,7 +224,7 @@ pub(crate) fn facts_of(
     let request = request_of(settings, event);
     Facts {
         same: same_of(event, parties),
-        media: verdicts.media,
+        media_verdict: verdicts.media,
         manual: request.setup.commencement == 1,
         trusted: trusted(pck_asked(event, request, call.pck_id), verdicts),
         own_caller: parties.caller == settings.own_user,

@@ -38,22 +38,24 @@ fn order(phase: Phase) -> u8
     }
 }
 
-// The answers of a phase to what rows ask of it.
-fn at_phase(phase: Phase) -> At
-    ensures { λ r. ⌜ r ≡ atOf phase ⌝ }
-{
-    let n = order(phase);
-    At {
-        p0_or_p1: n <= 1,
-        p1: n == 1,
-        p2: (n == 2) | (n == 3),
-        p2_tfp1: n == 2,
-        p2_tfp2: n == 3,
-        p3: n == 4,
-        p4: n == 5,
-        p5_tfp2: n == 6,
-        p5_tfp4: n == 7,
-        p3_to_p5: 4 <= n,
+impl At {
+    // The answers of a phase to what rows ask of it.
+    fn of(phase: Phase) -> At
+        ensures { λ r. ⌜ r ≡ atOf phase ⌝ }
+    {
+        let n = order(phase);
+        At {
+            p0_or_p1: n <= 1,
+            p1: n == 1,
+            p2: (n == 2) | (n == 3),
+            p2_tfp1: n == 2,
+            p2_tfp2: n == 3,
+            p3: n == 4,
+            p4: n == 5,
+            p5_tfp2: n == 6,
+            p5_tfp4: n == 7,
+            p3_to_p5: 4 <= n,
+        }
     }
 }
 
@@ -82,7 +84,7 @@ fn setup_row(p0_or_p1: bool, facts: Facts) -> Row
     if !p0_or_p1 {
         return Row::R27;
     }
-    if !facts.media {
+    if !facts.media_verdict {
         return Row::R19;
     }
     if facts.manual {
@@ -122,7 +124,7 @@ fn accept_row(at: At, x: Facts) -> Row
     ensures { λ r. ⌜ r ≡ acceptRow at x ⌝ }
 {
     either(
-        at.p2 & (x.same & x.media),
+        at.p2 & (x.same & x.media_verdict),
         Row::R5,
         at.p4 & (x.own_caller & x.same),
         Row::R29,
@@ -133,5 +135,5 @@ fn accept_row(at: At, x: Facts) -> Row
 pub(crate) fn row_in(phase: Phase, cause: Cause, facts: Facts) -> Row
     ensures { λ r. ⌜ r ≡ rowIn phase cause facts ⌝ }
 {
-    found_at(at_phase(phase), cause, facts)
+    found_at(At::of(phase), cause, facts)
 }

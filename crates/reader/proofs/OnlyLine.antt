@@ -8,9 +8,9 @@ use native.Mathlib.Omega.{arith}
 use lib.ListN.{length, take, drop, getD, drop-of-length-le}
 use lib.Seq.{take-add, split-at}
 use lib.Dec.{eqb, leb}
-use borrow.Author.Tests.{eq-eqb, eqb-true, leb-true, leb-false}
+use borrow.Author.Tests.{eq-eqb, ne-eqb, eqb-true, leb-true, leb-false}
 use Rattle.frame.specs.Digits.{isDigit, numbersAt, total, allInHex}
-use Rattle.frame.specs.Media.{noMedia, mediaDigits, mediaHex, mediaFrom}
+use Rattle.frame.specs.Media.{noMedia, mediaValues, mediaDigits, mediaHex, mediaFrom}
 use Rattle.frame.specs.Frame.{kindOf, carries, mediaOf, GoodFrame}
 use Rattle.frame.specs.Layout.{front, back, mediaPlace, mediaCount, backPlace, digitsOf, frontFields, frontOf, backOf, mediaInHex, frameInHex, lineOf}
 use Rattle.frame.specs.declared.Media.{Media}
@@ -132,14 +132,35 @@ number-read l = go (eqb (refusalOf l) 0) refl
     go true e = sym (eqb-true _ _ e)
     go false e = refl
 
--- its values are the numbers that stand in the line, in the layout's order
-pub values-read : (l : List ℕ) → refusalOf l ≡ 0
-    → valuesOf (lineMessage l) ≡ numbersAt (front (kindAt l)) l 0 ++ numbersAt (back (kindAt l)) l (backPlace (kindAt l))
+-- the values of the media that stand in a line, where the kind carries media
+abbrev pub mediaRead : ℕ → List ℕ → List ℕ
+mediaRead kind l = cond (carries kind) (mediaValues (mediaFrom l (mediaPlace kind))) []
+
+-- those of the media that is read
+media-values : (l : List ℕ) (k : ℕ) → cond (carries k) (mediaValues (mediaAt k l)) [] ≡ mediaRead k l
+unfolding mediaAt
+media-values l k = go (carries k)
+  where
+    go : (b : Bool) → _≡_ {A = List ℕ} (cond b (mediaValues (cond b (mediaFrom l (mediaPlace k)) noMedia)) []) (cond b (mediaValues (mediaFrom l (mediaPlace k))) [])
+    go true = refl
+    go false = refl
+
+-- its values are the numbers that stand in the line, in the layout's order, and none are those of a line that is refused
+pub values-read : (l : List ℕ) → let k = kindAt l in
+    (refusalOf l ≡ 0 → valuesOf (readLine l) ≡ numbersAt (front k) l 0 ++ (mediaRead k l ++ numbersAt (back k) l (backPlace k)))
+    × ((refusalOf l ≡ 0 → ⊥) → valuesOf (readLine l) ≡ [])
 unfolding readLine Made numbersAt
-values-read l e =
-    let m = is-made l (accepted l e) in
-    ap (λ (b : Bool). valuesOf ((cond b (reading (messageAt (kindAt l) l) (mediaAt (kindAt l) l)) (refusal (refusalOf l))) .read)) (eq-eqb _ _ e)
-    ∙ (ap₂ _++_ (ap₂ (λ (x : ℕ) (xs : List ℕ). x ∷ xs) (m .0) (m .1)) (m .2))
+values-read l = (
+  λ e. let m = is-made l (accepted l e) in
+      answered (eq-eqb _ _ e)
+      ∙ (ap₂ _++_ (ap₂ (λ (x : ℕ) (xs : List ℕ). x ∷ xs) (m .0) (m .1))
+      (ap₂ _++_ (ap (λ (n : ℕ). cond (carries n) (mediaValues (mediaAt (kindAt l) l)) []) (m .0) ∙ media-values l (kindAt l)) (m .2))),
+  λ f. answered (ne-eqb _ _ f),
+)
+  where
+    answered : {b : Bool} → eqb (refusalOf l) 0 ≡ b
+        → valuesOf (readLine l) ≡ valuesOf (cond b (reading (messageAt (kindAt l) l) (mediaAt (kindAt l) l)) (refusal (refusalOf l)))
+    answered e = ap (λ (b : Bool). valuesOf (cond b (reading (messageAt (kindAt l) l) (mediaAt (kindAt l) l)) (refusal (refusalOf l)))) e
 
 -- ---- the line end
 

@@ -8,8 +8,8 @@ use lib.Dec.{ltb, eqb}
 use Rattle.frame.specs.Number.{firstGiven}
 use Rattle.frame.specs.Digits.{allDigits, one, numberAt, numbersAt}
 use Rattle.frame.specs.Range.{within}
-use Rattle.frame.specs.Media.{noMedia, mediaFrom}
-use Rattle.frame.specs.Frame.{carries, inRange}
+use Rattle.frame.specs.Media.{noMedia, mediaValues, mediaFrom}
+use Rattle.frame.specs.Frame.{kindOf, carries, inRange}
 use Rattle.frame.specs.Layout.{front, back, mediaPlace, backPlace, digitsOf, frontOf, backOf}
 use Rattle.frame.specs.declared.Media.{Media}
 use Rattle.frame.specs.declared.Parties.{Parties}
@@ -136,10 +136,18 @@ abbrev pub numberOf : Read → ℕ
 numberOf (Readable m) = 0
 numberOf (Refused n) = n
 
--- the values of each answer: the message's fields in their order, kind first; none where it refuses
-abbrev pub valuesOf : Read → List ℕ
-valuesOf (Readable m) = frontOf m ++ backOf m
-valuesOf (Refused n) = []
+-- the values of a frame in the order of its line: the kind, the fields ahead of the media, the media where the kind carries media, the fields behind it
+abbrev pub frameValues : Message → Media → List ℕ
+frameValues m media = frontOf m ++ (cond (carries (kindOf m)) (mediaValues media) [] ++ backOf m)
+
+-- the values of a message and its media, none where it is refused
+abbrev pub readValues : Read → Media → List ℕ
+readValues (Readable m) media = frameValues m media
+readValues (Refused n) media = []
+
+-- the values of each answer
+abbrev pub valuesOf : Reading → List ℕ
+valuesOf r = readValues (r .read) (r .media)
 
 -- a message with its media
 abbrev pub reading : Message → Media → Reading

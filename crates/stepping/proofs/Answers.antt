@@ -1,7 +1,7 @@
 -- The cases of a step of either machine: refused by a test, refused by the row, refused by the writer, carried out. Assumes nothing.
 use Prim.Native.Nat.{ℕ}
 use mathlib.Core.Path.{_≡_, refl}
-use mathlib.Core.List.{List}
+use mathlib.Core.List.{List, []}
 use mathlib.Core.Bool.{Bool, true, false, cond}
 use native.Mathlib.Omega.{arith}
 use lib.ListN.{length}
@@ -24,6 +24,14 @@ by-cases n moved refused P f g = go (eqb n 0) refl
     go : (b : Bool) → eqb n 0 ≡ b → P (cond b moved (refused n))
     go true t = f (eqb-true n 0 t)
     go false t = g (eqb-false n 0 t)
+
+-- where nothing is written, every byte is as lent
+pub nothing-lent : (n : ℕ) (out : List ℕ) → lentAfter n [] out ≡ out
+nothing-lent n out = go (eqb n 0)
+  where
+    go : (b : Bool) → cond b out out ≡ out
+    go true = refl
+    go false = refl
 
 -- the length told of what is written
 pub told-length : (sent : Send) (media : Media) (out : List ℕ) → sendNumber sent media out ≡ 0 → sendTold sent media out .length ≡ length (lineSent sent media)

@@ -1,25 +1,23 @@
 -- A frame as numbers, one a field, in the order of its line: kind, identifier, and what follows. Assumes nothing.
 use Prim.Native.Nat.{ℕ, _+_, _%_}
-use mathlib.Core.List.{List, [], _∷_, _++_}
+use mathlib.Core.List.{List, [], _∷_}
 use mathlib.Core.Bool.{Bool, not, cond}
 use lib.ListN.{getD, length}
 use Rattle.frame.specs.Digits.{Width, one, twice, two, size}
 use Rattle.frame.specs.Range.{within}
 use Rattle.frame.specs.Media.{noMedia}
-use Rattle.frame.specs.Frame.{kindOf, carries}
-use Rattle.frame.specs.Layout.{front, back, frontOf, backOf}
+use Rattle.frame.specs.Frame.{carries}
+use Rattle.frame.specs.Layout.{front, back}
 use Rattle.frame.specs.declared.Media.{Media}
 use Rattle.frame.specs.declared.Parties.{Parties}
 use Rattle.frame.specs.declared.Setup.{Setup}
 use Rattle.frame.specs.declared.GroupCall.{GroupCall}
 use Rattle.frame.specs.declared.Acceptance.{Acceptance}
 use Rattle.frame.specs.declared.Message.{Message}
-use Rattle.reader.specs.Line.{partiesOf, setupOf, groupCallOf, acceptanceOf, messageOf, lineMessage, lineMedia}
-use Rattle.reader.specs.declared.Read.{Read}
-use Rattle.reader.specs.declared.Read.the-variants.{Readable, Refused}
+use Rattle.reader.specs.Line.{partiesOf, setupOf, groupCallOf, acceptanceOf, messageOf, valuesOf, readLine}
 use Rattle.writer.specs.Writing.{writeNumber, bufferOf}
 
--- ---- the values of a frame
+-- ---- the values of a line
 
 -- media as a value: its number
 abbrev pub mediaValue : Media → ℕ
@@ -29,22 +27,9 @@ mediaValue media = media .number
 abbrev pub mediaWith : ℕ → Media
 mediaWith value = record { number = value }
 
--- the value of the media, where the kind carries media
-abbrev pub mediaValues : ℕ → Media → List ℕ
-mediaValues kind media = cond (carries kind) (mediaValue media ∷ []) []
-
--- the values of a frame
-abbrev pub frameValues : Message → Media → List ℕ
-frameValues m media = frontOf m ++ (mediaValues (kindOf m) media ++ backOf m)
-
--- the values of what a line reads as, none where it is refused
-abbrev pub readValues : Read → Media → List ℕ
-readValues (Readable m) media = frameValues m media
-readValues (Refused n) media = []
-
--- the values of a line
+-- the values of a line: those of what it reads as
 unfoldable pub lineValues : List ℕ → List ℕ
-lineValues l = readValues (lineMessage l) (lineMedia l)
+lineValues l = valuesOf (readLine l)
 
 -- ---- the frame of values
 

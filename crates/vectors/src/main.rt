@@ -107,7 +107,7 @@ fn starts_group_call() -> Input {
 
 // The private call: user 7 starts it, hears the accept of user 9, and ends it.
 fn play_private_call() {
-    let called = private_step(private_record::states::cleared_record(), starts());
+    let called = private_step(private_record::states::PrivateRecord::cleared(), starts());
     let reading = reader::read_line(&ACCEPT);
     let media = reading.media;
     let read = reading.read;
@@ -127,7 +127,7 @@ fn play_group_call() {
     let mut out = [0u8; Message::LONGEST];
     let announced = group_call::step(
         crew(),
-        group_record::states::cleared_record(),
+        group_record::states::GroupRecord::cleared(),
         starts_group_call(),
         &mut out,
     );

@@ -84,7 +84,8 @@ returns-5 c =
     let a = d .before .before .before .before .before .before .before .before .args in
     let n = sent w in
     let z = ap (λ (x : Written). x .number) (sym (n .0)) ∙ c .before .if4 .left in
-    let r = carried-out (a .settings) (a .stored) (a .input) (a .out .now) (sym (number (d .before .before .before .before .before)) ∙ d .before .before .before .before .if1 .left) (sym (early d) ∙ w .before .before .before .before .if3 .left) z in
+    let met : rowNumber (rowOf (a .settings) (a .stored) (a .input .event)) ≡ 0 → ⊥ = λ e. d .before .if2 .left (d .before .before .row-number .ensures ∙ ap rowNumber (d .before .before .before .row-of .ensures) ∙ e) in
+    let r = carried-out (a .settings) (a .stored) (a .input) (a .out .now) (sym (number (d .before .before .before .before .before)) ∙ d .before .before .before .before .if1 .left) met (sym (early d) ∙ w .before .before .before .before .if3 .left) z in
     let row = d .before .before .before .row-of .ensures in
     let carried = done (w .before .before .before) in
     (c .moved .ensures ∙ (λ j. movedOf (row j) (carried j) (n .0 j .length)) ∙ r .0, n .1 ∙ r .1)

@@ -12,4 +12,4 @@ well-formed-spec =
     (λ c κs. search needs)
     (λ c κs. search needs)
     (λ c κs. search needs)
-    (λ c. rw (c .call-good .ensures, c .before .same-timers .ensures, c .before .before .running-of .ensures)))
+    (λ c. rw (c .call-good .ensures, c .before .same-timers .ensures, c .before .before .running2 .ensures)))

@@ -19,4 +19,4 @@ carry-out-spec =
     (λ c κs. search needs)
     (λ c κs. search needs)
     (λ c κs. search needs)
-    (λ c. rw (c .sent .ensures, c .before .counters-after .ensures, c .before .before .held .ensures, c .before .before .before .running-after .ensures, c .before .before .before .before .stopped .ensures, c .before .before .before .before .before .state-changes .ensures, c .before .before .before .before .before .before .started .ensures, c .before .before .before .before .before .before .before .ran-out .ensures, c .before .before .before .before .before .before .before .before .before .request-of .ensures, c .before .before .before .before .before .before .before .before .before .before .before .before .effect-of .ensures)))
+    (λ c. rw (c .sent .ensures, c .before .stopped .ensures, c .before .before .counters-after .ensures, c .before .before .before .held .ensures, c .before .before .before .before .running-after .ensures, c .before .before .before .before .before .state-changes .ensures, c .before .before .before .before .before .before .started .ensures, c .before .before .before .before .before .before .before .ran-out .ensures, c .before .before .before .before .before .before .before .before .before .request-of .ensures, c .before .before .before .before .before .before .before .before .before .before .before .before .effect-of .ensures)))

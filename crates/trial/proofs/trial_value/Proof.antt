@@ -4,10 +4,10 @@ use mathlib.Core.Path.{_≡_, sym, ap, _∙_}
 use mathlib.Core.List.{List}
 use lib.ListN.{getD}
 use borrow.Author.Needs.{needs}
-use Rattle.reader.specs.Line.{readLine}
+use Rattle.reader.specs.Line.{readValues, valuesOf, readLine}
 use Rattle.reader.specs.declared.Read.{Read}
 use Rattle.reader.specs.declared.Reading.{Reading}
-use Rattle.trial.specs.Values.{readValues, lineValues}
+use Rattle.trial.specs.Values.{lineValues}
 use Rattle.trial.proofs.trial_value.Statement.{statement}
 use Rattle.trial.proofs.trial_value.Tie as tie
 
@@ -17,7 +17,7 @@ by-reading : (l : List ℕ) (place : ℕ) (g : Reading) → g ≡ readLine l →
 unfolding lineValues
 by-reading l place g e x h =
     ap (λ (y : Read). getD (readValues y (g .media)) place 0) (sym h)
-    ∙ ap (λ (y : Reading). getD (readValues (y .read) (y .media)) place 0) e
+    ∙ ap (λ (y : Reading). getD (valuesOf y) place 0) e
 
 pub trial-value-spec : {M : Type 1} → statement M
 trial-value-spec =

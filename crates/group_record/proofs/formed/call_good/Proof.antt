@@ -10,5 +10,5 @@ call-good-spec =
     (λ c κs. search needs)
     (λ c κs. search needs)
     (λ c κs. search needs)
-    (λ c. rw (c .no-call .ensures, ← c .before .before .start-stop .ensures, c .before .if1 .taken))
-    (λ c. rw (c .call-held .ensures, ← c .before .before .start-stop .ensures, c .before .if1 .left)))
+    (λ c. rw (c .no-call .ensures, ← c .before .before .is-start-stop .ensures, c .before .if1 .taken))
+    (λ c. rw (c .call-held .ensures, ← c .before .before .is-start-stop .ensures, c .before .if1 .left)))

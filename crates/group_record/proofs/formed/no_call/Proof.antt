@@ -8,4 +8,4 @@ no-call-spec =
     tie.close
     (tie.spec
     (λ c κs. search needs)
-    (λ c. rw (c .media-none .ensures)))
+    (λ c. rw (c .is-none .ensures)))

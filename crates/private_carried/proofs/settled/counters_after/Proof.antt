@@ -12,4 +12,4 @@ counters-after-spec =
     (λ c κs. search needs)
     (λ c κs. search needs)
     (λ c κs. search needs)
-    (λ c. rw (c .counter-after3 .ensures, c .before .counter-after2 .ensures, c .before .before .counter-after .ensures)))
+    (λ c. rw (c .after3 .ensures, c .before .after2 .ensures, c .before .before .after .ensures)))

@@ -8,4 +8,4 @@ setup-request-spec =
     tie.close
     (tie.spec
     (λ c κs. search needs)
-    (λ c. rw (c .before .before .private-request .ensures)))
+    (λ c. rw (c .before .before .private .ensures)))

@@ -13,5 +13,5 @@ call-good-spec =
     (λ c κs. search needs)
     (λ c κs. search needs)
     (λ c κs. search needs)
-    (λ c. rw (c .no-call .ensures, c .before .start-stop .ensures, eq-eqb _ _ (c .before .before .if1 .taken)))
-    (λ c. rw (c .role-good .ensures, c .before .one-own .ensures, c .before .before .fields-good .ensures, ne-eqb _ _ (c .before .before .before .if1 .left))))
+    (λ c. rw (c .is-none .ensures, c .before .is-start-stop .ensures, eq-eqb _ _ (c .before .before .if1 .taken)))
+    (λ c. rw (c .role-good .ensures, c .before .one-own .ensures, c .before .before .in-range .ensures, ne-eqb _ _ (c .before .before .before .if1 .left))))

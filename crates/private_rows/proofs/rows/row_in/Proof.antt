@@ -10,4 +10,4 @@ row-in-spec =
     (tie.spec
     (λ c κs. search needs)
     (λ c κs. search needs)
-    (λ c. rw (c .found-at .ensures, c .before .at-phase .ensures) (found-is-met _ _ _)))
+    (λ c. rw (c .found-at .ensures, c .before .of .ensures) (found-is-met _ _ _)))

@@ -4,7 +4,8 @@ use mathlib.Core.Path.{_≡_, sym, ap, _∙_}
 use mathlib.Core.List.{[], _∷_, _++_}
 use lib.ListN.{getD}
 use Rattle.frame.specs.declared.Message.{Message}
-use Rattle.trial.specs.Values.{mediaValue, mediaWith, frameValues}
+use Rattle.reader.specs.Line.{frameValues}
+use Rattle.trial.specs.Values.{mediaValue, mediaWith}
 use Rattle.trial.proofs.Behind.{zero-behind}
 use borrow.Author.Needs.{needs}
 use Rattle.trial.proofs.values.message_value.Statement.{statement}

@@ -29,6 +29,8 @@ use Rattle.group_record.specs.declared.rows.Row.the-variants as GroupRow
 use Rattle.group_rows.specs.Rows as GroupRows
 use Rattle.group_rows.specs.declared.causes.Cause as GroupCause
 use Rattle.group_rows.specs.declared.causes.Facts as GroupFacts
+use Rattle.private_call.proofs.Steps as private
+use Rattle.group_call.proofs.Steps as group
 use Rattle.demands.specs.Machines.{Answer, Machine, lineToSend, Unrefused, CarriesOut, RowsHold, KeepsWellFormed, privateMachine, groupMachine}
 use Rattle.demands.specs.ExactlyWhen.{ExactlyWhen, SettingOut, Unformed, FieldOut, ArgumentOut, StepRoomless, StepExactlyWhen}
 use Rattle.demands.specs.NothingChanges.{StepNothingChanges}
@@ -111,7 +113,7 @@ private-row f c x = leb-true _ lastPrivateRow (met-passes (λ row. leb (Rows.row
 
 -- the private call machine tells no other row
 pub private-known-rows : KnownRows privateMachine lastPrivateRow
-private-known-rows = known-rows privateMachine lastPrivateRow step-nothing-changes private-carries-out (λ s p i. private-row _ _ _)
+private-known-rows = known-rows privateMachine lastPrivateRow step-nothing-changes private-carries-out (λ s p i. subst (λ (n : ℕ). n ≤ lastPrivateRow) (sym (private.answer-told s p i .1)) (private-row _ _ _))
 
 -- the group rows are G1 to G11
 group-row : (f : State) (c : GroupCause.Cause) (x : GroupFacts.Facts) → GroupRows.rowNumber (GroupRows.rowIn f c x) ≤ lastGroupRow
@@ -120,7 +122,7 @@ group-row f c x = leb-true _ lastGroupRow (met-passes (λ row. leb (GroupRows.ro
 
 -- the group call machine tells no other row
 pub group-known-rows : KnownRows groupMachine lastGroupRow
-group-known-rows = known-rows groupMachine lastGroupRow group-step-nothing-changes group-carries-out (λ s g i. group-row _ _ _)
+group-known-rows = known-rows groupMachine lastGroupRow group-step-nothing-changes group-carries-out (λ s g i. subst (λ (n : ℕ). n ≤ lastGroupRow) (sym (group.answer-told s g i .1)) (group-row _ _ _))
 
 -- ---- every row
 

@@ -3,24 +3,27 @@ use mathlib.Core.Path.{sym, ap, _∙_, subst}
 use Rattle.reader.specs.Line.{readLine}
 use Rattle.reader.proofs.ReadsItsLine.{reads-its-line}
 use Rattle.reader.proofs.OnlyLine.{line-is-the-only-one}
+use Rattle.chooser.proofs.Chosen.{same-line}
 use Rattle.group_call.specs.Hearing.{Build, promised}
 use Rattle.demands.specs.Machines.{privateMachine, groupMachine}
 use Rattle.demands.specs.Consequences.{lastPrivateRow, lastGroupRow}
 use Rattle.demands.specs.Demands.{NumbersGiven, RefusalsKeep, Demand1, OneLine, ByTheRows, MeetsDemands, Demand2, Demand3}
 use Rattle.demands.specs.Builds.{BuildOf, steppedAs, asStep}
-use Rattle.demands.specs.SameCall.{KeepsContract, BestCall, SameCall, AnyOrder}
-use Rattle.demands.proofs.ExactlyWhen.{line-exactly-when, read-exactly-when, write-exactly-when, answer-exactly-when, step-exactly-when}
+use Rattle.demands.specs.SameCall.{IsPromised, BestCall, SameCall, AnyOrder}
+use Rattle.demands.proofs.ExactlyWhen.{line-exactly-when, read-exactly-when, write-exactly-when, send-exactly-when, answer-exactly-when, step-exactly-when}
 use Rattle.demands.proofs.Choosing.{choose-number-exactly-when}
-use Rattle.demands.proofs.NothingChanges.{read-nothing-changes, write-nothing-changes, write-sent-nothing-changes, answer-nothing-changes, choose-nothing-changes, step-nothing-changes}
-use Rattle.demands.proofs.Machines.{private-carries-out, private-keeps-well-formed, private-sends-good, private-timers-agree, private-change-stops, private-spares-ran-out}
+use Rattle.demands.proofs.NothingChanges.{read-nothing-changes, write-nothing-changes, write-sent-nothing-changes, answer-nothing-changes, choose-nothing-changes, chooses-none, step-nothing-changes}
+use Rattle.demands.proofs.Machines.{private-carries-out, private-keeps-well-formed, private-sends-good, private-clears, private-timers-agree, private-change-stops, private-spares-ran-out}
 use Rattle.demands.proofs.GroupMachine.{group-step-exactly-when, group-step-nothing-changes}
-use Rattle.demands.proofs.GroupMachine.{group-carries-out, group-keeps-well-formed, group-sends-good, group-timers-agree, group-change-stops, group-spares-ran-out}
+use Rattle.demands.proofs.GroupMachine.{group-carries-out, group-keeps-well-formed, group-sends-good, group-clears, group-timers-agree, group-change-stops, group-spares-ran-out}
 use Rattle.demands.proofs.Consequences.{private-rows-hold, group-rows-hold, private-known-rows, group-known-rows, private-every-row, group-every-row}
+use Rattle.demands.proofs.ReadsBack.{reads-back}
 use Rattle.demands.proofs.PrivateHeeds.{private-heeds, private-never-still}
 use Rattle.demands.proofs.GroupHeeds.{group-heeds, group-never-still}
 use Rattle.demands.proofs.Varying.{private-varies, group-varies}
 use Rattle.demands.proofs.Builds.{private-shuts-out, group-shuts-out}
 use Rattle.demands.proofs.SameCall.{best-call, same-call, any-order}
+use Rattle.demands.proofs.BetterLine.{better-given}
 
 -- ---- demand 1
 
@@ -31,6 +34,7 @@ exactly-when =
       ofLine = line-exactly-when;
       ofReading = read-exactly-when;
       ofWriting = write-exactly-when;
+      ofSending = send-exactly-when;
       ofAnswering = answer-exactly-when;
       ofChoosing = choose-number-exactly-when;
       ofPrivateStep = step-exactly-when;
@@ -46,6 +50,7 @@ nothing-changes =
       bySending = write-sent-nothing-changes;
       byAnswering = answer-nothing-changes;
       byChoosing = choose-nothing-changes;
+      byChoice = chooses-none;
       byPrivateStep = step-nothing-changes;
       byGroupStep = group-step-nothing-changes;
     }
@@ -70,6 +75,8 @@ private-by-the-rows =
       everyRow = private-every-row;
       keepsWellFormed = private-keeps-well-formed;
       sendsGood = private-sends-good;
+      readsBack = reads-back privateMachine step-exactly-when step-nothing-changes private-sends-good;
+      clears = private-clears;
       timersAgree = private-timers-agree;
       changeStops = private-change-stops;
       sparesRanOut = private-spares-ran-out;
@@ -88,6 +95,8 @@ group-by-the-rows =
       everyRow = group-every-row;
       keepsWellFormed = group-keeps-well-formed;
       sendsGood = group-sends-good;
+      readsBack = reads-back groupMachine group-step-exactly-when group-step-nothing-changes group-sends-good;
+      clears = group-clears;
       timersAgree = group-timers-agree;
       changeStops = group-change-stops;
       sparesRanOut = group-spares-ran-out;
@@ -109,21 +118,23 @@ demand-2 =
 
 -- ---- demand 3
 
--- what holds of what is promised holds of every build that keeps the contract
-kept : (P : Build → Type 0) → P promised → (b : Build) → KeepsContract b → P b
-kept P holds b keeps = subst P (sym (λ j s g i out. keeps s g i out j)) holds
+-- what holds of what is promised holds of every build whose answers are those
+kept : (P : Build → Type 0) → P promised → (b : Build) → IsPromised b → P b
+kept P holds b is = subst P (sym (λ j s g i out. is s g i out j)) holds
 
--- a build that meets the other demands is the machine, so it keeps the contract
-keeps-contract : (b : BuildOf groupMachine) → MeetsDemands groupMachine b → KeepsContract (asStep b)
-keeps-contract b m s g i out =
+-- a build that meets the other demands is the machine, so its answers are those that are promised
+is-promised : (b : BuildOf groupMachine) → MeetsDemands groupMachine b → IsPromised (asStep b)
+is-promised b m s g i out =
     let e = group-shuts-out group-by-the-rows .oneBuild b m s g i out in λ j. (steppedAs (e .0 j), e .1 j)
 
--- two cabs that know of the same calls end in the same one
+-- two cabs that know of the same calls end in the same one, and of two lines that of the better call is given
 pub demand-3 : Demand3
 demand-3 =
     record {
       oneCab = kept BestCall best-call;
       twoCabs = kept SameCall same-call;
       anyOrder = kept AnyOrder any-order;
-      fromTheOthers = λ b m. kept SameCall same-call (asStep b) (keeps-contract b m);
+      fromTheOthers = λ b m. kept SameCall same-call (asStep b) (is-promised b m);
+      betterLine = better-given;
+      eitherFirst = same-line;
     }

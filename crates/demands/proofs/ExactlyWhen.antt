@@ -25,7 +25,9 @@ use Rattle.call.specs.Settings.{settingsGood}
 use Rattle.call.specs.Request.{requestOf}
 use Rattle.call.specs.declared.Settings.{Settings}
 use Rattle.call.specs.declared.Input.{Input}
+use Rattle.call.specs.declared.Send.{Send}
 use Rattle.step_numbers.specs.Numbers.{heardGood, argumentsGood}
+use Rattle.stepping.specs.Sending.{sendTold}
 use Rattle.private_record.specs.declared.states.PrivateRecord.{PrivateRecord}
 use Rattle.private_record.specs.declared.rows.Row.the-variants.{R1}
 use Rattle.private_rows.specs.Causes.{sameIdentifier}
@@ -34,7 +36,7 @@ use Rattle.private_rows.proofs.Meets.{same-row}
 use Rattle.private_call.specs.Step.{identifierTaken}
 use Rattle.private_call.proofs.Steps.{number-told}
 use Rattle.private_call.proofs.NumberTable.{step-number}
-use Rattle.demands.specs.ExactlyWhen.{GivenExactlyWhen, IsDigit, Unended, Undigital, Unkind, Misfit, Unranged, lineTable, writeTable, answerTable}
+use Rattle.demands.specs.ExactlyWhen.{ExactlyWhen, Among, GivenExactlyWhen, IsDigit, Unended, Undigital, Unkind, Misfit, Unranged, lineTable, writeTable, sendTable, answerTable}
 use Rattle.demands.specs.ExactlyWhen.{SettingOut, Unformed, FieldOut, ArgumentOut, StepRoomless, stepTable, StepExactlyWhen}
 use Rattle.demands.specs.Totals.{totals}
 use Rattle.demands.specs.Machines.{Machine, lineToSend, IdentifierStored, privateMachine}
@@ -169,6 +171,12 @@ write-exactly-when m media out = table-exactly rows refl right
 
     right : Right (Unit {0}) rows
     right = (λ b. false-reflects (inRange m media), (λ b. ltb-reflects (length out) (length (lineOf m media)), tt))
+
+-- what a step sends: the writer's numbers, or none
+pub send-exactly-when : (sent : Send) (media : Media) (out : List ℕ) → GivenExactlyWhen (sendTold sent media out .number) (sendTable sent media out)
+unfolding writtenOf ExactlyWhen Among
+send-exactly-when Send.Nothing media out = record { answered = refl; exactly = (λ e. tt, λ u. refl) }
+send-exactly-when (Send.Message m) media out = write-exactly-when m media out
 
 -- the answer to a log: 6
 pub answer-exactly-when : (log out : List ℕ) → GivenExactlyWhen (answerTold log out .number) (answerTable log out)

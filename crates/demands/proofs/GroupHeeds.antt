@@ -27,6 +27,8 @@ use Rattle.group_rows.proofs.Meets.{found-is-met}
 use Rattle.group_effects.specs.Effects.{effectOf}
 use Rattle.group_carried.specs.Carried.{changes, carryOut}
 use Rattle.group_call.specs.Step.{changeTooEarly}
+use Rattle.group_call.specs.declared.Stepped.{Stepped}
+use Rattle.group_call.proofs.Steps.{answer-of-row, answer-told}
 use Rattle.demands.specs.Machines.{groupMachine}
 use Rattle.demands.specs.GroupPlayed.{doesInGroup}
 use Rattle.demands.specs.Consequences.{IsHeeded, Heeds, NeverStill}
@@ -52,6 +54,7 @@ unfolding carryOut
 heeded s g i f row t e r n h c =
     let x = factsOf s (g .call) (announcedOf s (i .event) .call) in
     let met : rowOf s g (i .event) ≡ row = ap (λ (f : State). rowIn f (causeOf s (i .event)) x) e ∙ sym (found-is-met f _ _) ∙ r in
+    let number = ap rowNumber met in
     heeded-by-row groupMachine group-rows-hold s g i
     (record {
       settings = t .settings;
@@ -59,7 +62,9 @@ heeded s g i f row t e r n h c =
       message = t .message;
       arguments = t .arguments;
       row = true-reflects (early-reflects s g i) (ap (changeTooEarly s g (i .event)) met ∙ n);
-    }) refl (subst (λ (k : ℕ). 1 ≤ k) (sym (ap rowNumber met)) h) ((λ j. changes (e j) (effectOf (met j) (e j) (confirms s i) .to)) ∙ c)
+    }) (answer-told s g i .0) (subst (λ (k : ℕ). 1 ≤ k) (sym (answer-told s g i .1 ∙ number)) h)
+    (ap (λ (x : Stepped). changes (g .state) (x .next .state)) (answer-of-row s g i (λ e. let z = sym number ∙ e in omega (arith, z, h)))
+    ∙ (λ j. changes (e j) (effectOf (met j) (e j) (confirms s i) .to)) ∙ c)
 
 -- ---- a start that is not refused
 

@@ -4,26 +4,23 @@ use mathlib.Core.Path.{_≡_, sym, ap, _∙_, subst}
 use mathlib.Core.Bool.{not}
 use lib.Dec.{ltb, eqb}
 use borrow.Author.Tests.{eq-eqb, ltb-false, le-ltb, not-true}
-use Rattle.call.specs.Timing.{runsAfter}
 use Rattle.call.specs.declared.Settings.{Settings}
-use Rattle.call.specs.declared.GroupTimer.{GroupTimer}
 use Rattle.call.specs.declared.Input.{Input}
 use Rattle.call.specs.declared.Send.{Send}
 use Rattle.announced.specs.Announced.{announcedOf}
 use Rattle.stepping.proofs.Stepping.{SentGood}
-use Rattle.group_record.specs.States.{has}
-use Rattle.group_record.specs.declared.states.Timers.{Timers}
 use Rattle.group_record.specs.declared.states.GroupRecord.{GroupRecord}
 use Rattle.group_record.specs.declared.rows.Row.the-variants.{G9}
 use Rattle.group_rows.specs.Rows.{rowNumber, rowOf}
 use Rattle.group_rows.proofs.Meets.{same-row}
-use Rattle.group_carried.specs.Carried.{isLater, runningAfter}
+use Rattle.group_carried.specs.Carried.{isLater}
 use Rattle.group_call.specs.Step.{changeTooEarly, doneOf, stepNumber}
 use Rattle.group_call.specs.declared.Stepped.{Stepped}
-use Rattle.group_call.proofs.Keeping.{has-set, carried-sends-good}
-use Rattle.group_call.proofs.Steps.{number-told, step-number, step-done, step-refused, row-0-keeps, keeps-well-formed, timers-agree}
-use Rattle.group_call.proofs.GeneralRules.{step-change-stops, step-spares-ran-out}
-use Rattle.demands.specs.Machines.{CarriesOut, KeepsWellFormed, SendsGood, TimersAgree, ChangeStops, SparesRanOut, ChangeNotLater, groupAnswer, groupMachine}
+use Rattle.group_call.proofs.Keeping.{carried-sends-good}
+use Rattle.group_call.proofs.Steps.{number-told, step-number, step-answers, step-done, step-refused, row-0-keeps, keeps-well-formed}
+use Rattle.group_call.proofs.Clearing.{rows-7-and-8-clear}
+use Rattle.group_call.proofs.GeneralRules.{step-timers-agree, step-change-stops, step-spares-ran-out}
+use Rattle.demands.specs.Machines.{CarriesOut, KeepsWellFormed, SendsGood, Clears, TimersAgree, ChangeStops, SparesRanOut, ChangeNotLater, groupAnswer, groupMachine}
 use Rattle.demands.specs.ExactlyWhen.{StepExactlyWhen}
 use Rattle.demands.specs.NothingChanges.{StepNothingChanges}
 use Rattle.demands.proofs.Reflects.{Reflects, and-reflects}
@@ -32,7 +29,7 @@ use Rattle.demands.proofs.NothingChanges.{machine-nothing-changes}
 
 -- it carries out the row that is met
 pub group-carries-out : CarriesOut groupMachine
-group-carries-out s g i out e = let d = step-done s g i out (sym (number-told s g i out) ∙ e) in (ap groupAnswer (d .0), d .1)
+group-carries-out s g i out e = let d = step-answers s g i out (sym (number-told s g i out) ∙ e) in (ap groupAnswer (d .0), d .1)
 
 -- its records stay well formed
 pub group-keeps-well-formed : KeepsWellFormed groupMachine
@@ -44,15 +41,13 @@ group-sends-good s g i t m e =
     subst (λ (x : Send). SentGood x (doneOf s g i .next .media)) e
     (carried-sends-good s g i (record { settings = t .settings; formed = t .formed; message = t .message; arguments = t .arguments }))
 
--- whether a timer runs afterwards
-running-one : (was stopped out started : Timers) (t : GroupTimer)
-    → has (runningAfter was stopped out started) t ≡ runsAfter (has was t) (has stopped t) (has out t) (has started t)
-unfolding runningAfter
-running-one was stopped out started = has-set (λ t. runsAfter (has was t) (has stopped t) (has out t) (has started t))
+-- G7 and G8 clear its record
+pub group-clears : Clears groupMachine
+group-clears = rows-7-and-8-clear
 
 -- its timers agree
 pub group-timers-agree : TimersAgree groupMachine
-group-timers-agree s g i out e t = ap (λ (w : Timers). has w t) (timers-agree s g i out (sym (number-told s g i out) ∙ e)) ∙ running-one _ _ _ _ t
+group-timers-agree s g i out e = step-timers-agree s g i out (sym (number-told s g i out) ∙ e)
 
 -- leaving a state stops its timers
 pub group-change-stops : ChangeStops groupMachine

@@ -5,12 +5,14 @@ pub mod NothingChanges
 pub mod Machines
 pub mod GroupMachine
 pub mod Consequences
+pub mod ReadsBack
 pub mod PrivateHeeds
 pub mod GroupHeeds
 pub mod Varying
 pub mod Builds
 pub mod HearingOne
 pub mod SameCall
+pub mod BetterLine
 pub mod TwoCabs
 pub mod MarkedCases
 pub mod RowPlays

@@ -14,13 +14,12 @@ use Rattle.call.specs.declared.Settings.{Settings}
 use Rattle.call.specs.declared.Input.{Input}
 use Rattle.call.specs.declared.Send.{Send}
 use Rattle.stepping.specs.Sending.{lineSent, sendNumber, sendTold, sendBuffer}
-use Rattle.private_record.specs.declared.states.PrivateRecord.{PrivateRecord}
-use Rattle.private_call.specs.Step.{stepNumber, stepOf, stepBuffer}
-use Rattle.private_call.proofs.Steps.{number-told, row-0-keeps}
+use Rattle.private_call.specs.Step.{stepNumber}
+use Rattle.private_call.proofs.Steps.{number-told, step-refused, row-0-keeps}
 use Rattle.private_call.proofs.MarkedSteps.{line-done}
 use Rattle.chooser.proofs.Chosen.{chosen-refused}
 use Rattle.demands.specs.Machines.{Machine, lineToSend, IsRefused, privateAnswer, privateMachine}
-use Rattle.demands.specs.NothingChanges.{Done, NothingChanges, ReadNothingChanges, ChooseNothingChanges, StepKept, StepNothingChanges}
+use Rattle.demands.specs.NothingChanges.{Done, NothingChanges, ReadNothingChanges, ChooseNothingChanges, ChoosesNone, StepKept, StepNothingChanges}
 
 -- ---- a text written into a lent buffer
 
@@ -55,6 +54,10 @@ pub choose-nothing-changes : ChooseNothingChanges
 choose-nothing-changes first second f =
     let neither = chosen-refused (first .now) (second .now) .1 f in rw (neither) refl
 
+-- its choice
+pub chooses-none : ChoosesNone
+chooses-none = chosen-refused
+
 -- ---- a step
 
 -- a step that is refused with some number
@@ -73,15 +76,10 @@ machine-nothing-changes M numbered rowless done s p i out = (λ f. kept (numbere
     kept k =
         let e = k .1 .0 in (λ j. e j .next, λ j. e j .row, λ j. e j .stop, λ j. e j .start, (λ j. e j .length, k .1 .1))
 
--- the private call machine refuses where its number is not 0
-private-refuses : (s : Settings) (p : PrivateRecord) (i : Input) (out : List ℕ) → (stepOf s p i out .number ≡ 0 → ⊥) → Refusing privateMachine s p i out
-unfolding stepOf stepBuffer
-private-refuses s p i out f =
-    let b = ne-eqb (stepNumber s p i out) 0 (λ z. f (number-told s p i out ∙ z)) in (stepNumber s p i out, (rw b refl, rw b refl))
-
 -- the private call machine
 pub step-nothing-changes : StepNothingChanges privateMachine
 step-nothing-changes =
-    machine-nothing-changes privateMachine private-refuses
+    machine-nothing-changes privateMachine
+    (λ s p i out f. let k = step-refused s p i out (λ z. f (number-told s p i out ∙ z)) in (stepNumber s p i out, (ap privateAnswer (k .0), k .1)))
     (λ s p i out e. let k = row-0-keeps s p i out e in (stepNumber s p i out, (ap privateAnswer (k .0), k .1)))
     (λ s p i out e. line-done s p i out (sym (number-told s p i out) ∙ e))

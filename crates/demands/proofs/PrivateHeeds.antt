@@ -32,6 +32,8 @@ use Rattle.private_rows.proofs.Meets.{found-is-met}
 use Rattle.private_effects.specs.Effects.{effectOf}
 use Rattle.private_carried.specs.Carried.{changes, carryOut}
 use Rattle.private_call.specs.Step.{identifierTaken}
+use Rattle.private_call.specs.declared.Stepped.{Stepped}
+use Rattle.private_call.proofs.Steps.{answer-of-row, answer-told}
 use Rattle.private_call.proofs.Settling.{startStop}
 use Rattle.private_call.proofs.Holding.{ranged, one-held}
 use Rattle.demands.specs.Machines.{privateMachine}
@@ -56,6 +58,7 @@ heeded s p i f row t q r n h c =
     let state = fit s p (t .formed) .state ∙ ap stateOf q in
     let met : rowOf s p i ≡ row =
     (λ j. rowIn (q j) (causeOf s (i .event)) (factsOf s (q j) (p .counters) (p .call) i)) ∙ sym (found-is-met f _ _) ∙ r in
+    let number = ap rowNumber met in
     heeded-by-row privateMachine private-rows-hold s p i
     (record {
       settings = t .settings;
@@ -63,7 +66,9 @@ heeded s p i f row t q r n h c =
       message = t .message;
       arguments = t .arguments;
       row = true-reflects (taken-reflects s p i) (ap (identifierTaken s p (i .event)) met ∙ n);
-    }) refl (subst (λ (k : ℕ). 1 ≤ k) (sym (ap rowNumber met)) h) ((λ j. changes (state j) (effectOf (met j) (state j) .to)) ∙ c)
+    }) (answer-told s p i .0) (subst (λ (k : ℕ). 1 ≤ k) (sym (answer-told s p i .1 ∙ number)) h)
+    (ap (λ (x : Stepped). changes (p .state) (x .next .state)) (answer-of-row s p i (λ e. let z = sym number ∙ e in omega (arith, z, h)))
+    ∙ (λ j. changes (state j) (effectOf (met j) (state j) .to)) ∙ c)
 
 -- ---- a start that is not refused
 

@@ -50,7 +50,7 @@ cut-announces-none c m = eqb-false 4 0 refl (ap (λ (r : Reading). numberOf (r .
 -- neither does RINGING: its kind is 2
 ringing-announces-none : (c : Call) → Announcing (ringingSaid .line) c → ⊥
 unfolding ringing
-ringing-announces-none c m = eqb-false 2 8 refl (ap (λ (r : Reading). getD (valuesOf (r .read)) 0 0) (sym (lines-said .6) ∙ m .1))
+ringing-announces-none c m = eqb-false 2 8 refl (ap (λ (r : Reading). getD (valuesOf r) 0 0) (sym (lines-said .6) ∙ m .1))
 
 -- call 19 is not of group 3
 elsewhere-brings-none : (s : Settings) → s .«own_group» ≡ 3 → (c : Call) → Brings s (elsewhereSaid .line) c → ⊥

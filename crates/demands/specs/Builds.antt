@@ -2,7 +2,11 @@
 use mathlib.Core.Path.{_≡_}
 use mathlib.Core.Logic.{_⊎_}
 use mathlib.Core.List.{List}
-use Prim.Native.Nat.{ℕ, _<_}
+use mathlib.Core.Bool.{true}
+use Prim.Native.Nat.{ℕ, _<_, _≤_}
+use lib.ListN.{length}
+use Rattle.frame.specs.Layout.{longestLine}
+use Rattle.call.specs.Settings.{settingsGood}
 use Rattle.call.specs.declared.Settings.{Settings}
 use Rattle.call.specs.declared.Input.{Input}
 use Rattle.group_record.specs.declared.states.Timers.{Timers}
@@ -31,6 +35,8 @@ builtAs M b =
       changes = M .changes;
       ranOut = M .ranOut;
       wellFormed = M .wellFormed;
+      cleared = M .cleared;
+      Clearing = M .Clearing;
       RefusedByRow = M .RefusedByRow;
       sent = M .sent;
       media = M .media;
@@ -44,27 +50,48 @@ abbrev pub SameAs : (M : Machine) → BuildOf M → Type 0
 SameAs M b =
     (s : Settings) (p : M .Stored) (i : Input) (out : List ℕ) → (b .answer s p i out ≡ M .step s p i out) × (b .after s p i out ≡ M .buffer s p i out)
 
--- it refuses everything
+-- from some well-formed record, under good settings, it answers so to whatever comes in, with every buffer that has room for the longest line
+abbrev pub SomewhereAlways : (M : Machine) → BuildOf M → (Answer (M .Stored) (M .Timers) → Type 0) → Type 0
+SomewhereAlways M b So =
+    (s : Settings) × (p : M .Stored) × (settingsGood s ≡ true) × (M .wellFormed s p ≡ true)
+    × ((i : Input) (out : List ℕ) → longestLine ≤ length out → So (b .answer s p i out))
+
+-- from some well-formed record it refuses everything
 abbrev pub RefusesAll : (M : Machine) → BuildOf M → Type 0
-RefusesAll M b = (s : Settings) (p : M .Stored) (i : Input) (out : List ℕ) → b .answer s p i out .number ≡ 0 → ⊥
+RefusesAll M b = SomewhereAlways M b (λ answer. answer .number ≡ 0 → ⊥)
 
--- it meets no row, whatever happens
+-- from some well-formed record it meets no row, whatever happens
 abbrev pub DiscardsAll : (M : Machine) → BuildOf M → Type 0
-DiscardsAll M b = (s : Settings) (p : M .Stored) (i : Input) (out : List ℕ) → b .answer s p i out .row ≡ 0
+DiscardsAll M b = SomewhereAlways M b (λ answer. answer .row ≡ 0)
 
--- it may heed a first event, and then its record never changes again
+-- a step of it that is not refused: under good settings, from a well-formed record, and with number 0
+abbrev pub NotRefused : (M : Machine) → BuildOf M → Settings → M .Stored → Input → List ℕ → Type 0
+NotRefused M b s p i out = (settingsGood s ≡ true) × (M .wellFormed s p ≡ true) × (b .answer s p i out .number ≡ 0)
+
+-- it obeys a first event and then stands still: some first input is not refused and meets a row, and whatever comes after it leaves the record as it is
 abbrev pub StandsStill : (M : Machine) → BuildOf M → Type 0
 StandsStill M b =
-    (s : Settings) (p : M .Stored) (i j : Input) (out next : List ℕ) → let first = b .answer s p i out .next in b .answer s first j next .next ≡ first
+    (s : Settings) × (p : M .Stored) × (i : Input) × (out : List ℕ) × NotRefused M b s p i out × (1 ≤ b .answer s p i out .row)
+    × ((j : Input) (next : List ℕ) → let first = b .answer s p i out .next in b .answer s first j next .next ≡ first)
 
--- what is looked at is the same from every record and with every input
-abbrev pub AlwaysSame : (M : Machine) {A : Type 0} → (Settings → M .Stored → Input → List ℕ → A) → Type 0
-AlwaysSame M look = (s : Settings) (p q : M .Stored) (i j : Input) (out : List ℕ) → look s p i out ≡ look s q j out
+-- what is looked at is the same for all inputs that are not refused, where settings, record and buffer are the same
+abbrev pub SameForInputs : (M : Machine) → BuildOf M → {A : Type 0} → (Settings → M .Stored → Input → List ℕ → A) → Type 0
+SameForInputs M b look =
+    (s : Settings) (p : M .Stored) (i j : Input) (out : List ℕ) → NotRefused M b s p i out → NotRefused M b s p j out → look s p i out ≡ look s p j out
 
--- its reply never varies: in the row, in the next record, or in what the buffer then holds
+-- and for all records from which an input is not refused, where settings, input and buffer are the same
+abbrev pub SameForRecords : (M : Machine) → BuildOf M → {A : Type 0} → (Settings → M .Stored → Input → List ℕ → A) → Type 0
+SameForRecords M b look =
+    (s : Settings) (p q : M .Stored) (i : Input) (out : List ℕ) → NotRefused M b s p i out → NotRefused M b s q i out → look s p i out ≡ look s q i out
+
+-- what is looked at never varies with the input, or never with the record
+abbrev pub Unvarying : (M : Machine) → BuildOf M → {A : Type 0} → (Settings → M .Stored → Input → List ℕ → A) → Type 0
+Unvarying M b look = SameForInputs M b look ⊎ SameForRecords M b look
+
+-- its reply never varies: in the row, in the next record, or in what the buffer then holds; what it refuses does not count
 abbrev pub NeverVaries : (M : Machine) → BuildOf M → Type 0
 NeverVaries M b =
-    AlwaysSame M (λ s p i out. b .answer s p i out .row) ⊎ (AlwaysSame M (λ s p i out. b .answer s p i out .next) ⊎ AlwaysSame M (b .after))
+    Unvarying M b (λ s p i out. b .answer s p i out .row) ⊎ (Unvarying M b (λ s p i out. b .answer s p i out .next) ⊎ Unvarying M b (b .after))
 
 -- it tells a row above the last
 abbrev pub MakesUpRow : (M : Machine) → ℕ → BuildOf M → Type 0

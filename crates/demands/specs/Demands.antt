@@ -15,12 +15,13 @@ use Rattle.call.specs.declared.Send.{Send}
 use Rattle.stepping.specs.Sending.{lineSent, sendTold, sendBuffer}
 use Rattle.chooser.specs.Choice.{choiceNumber}
 use Rattle.group_call.specs.Hearing.{Build}
-use Rattle.demands.specs.ExactlyWhen.{GivenExactlyWhen, lineTable, writeTable, answerTable, choiceTable, StepExactlyWhen}
-use Rattle.demands.specs.NothingChanges.{NothingChanges, ReadNothingChanges, ChooseNothingChanges, StepNothingChanges}
-use Rattle.demands.specs.Machines.{Machine, RowsHold, CarriesOut, KeepsWellFormed, SendsGood, TimersAgree, ChangeStops, SparesRanOut, privateMachine, groupMachine}
+use Rattle.demands.specs.ExactlyWhen.{GivenExactlyWhen, lineTable, writeTable, sendTable, answerTable, choiceTable, StepExactlyWhen}
+use Rattle.demands.specs.NothingChanges.{NothingChanges, ReadNothingChanges, ChooseNothingChanges, ChoosesNone, StepNothingChanges}
+use Rattle.demands.specs.Machines.{Machine, RowsHold, CarriesOut, KeepsWellFormed, SendsGood, ReadsBack, Clears, TimersAgree, ChangeStops, SparesRanOut, privateMachine, groupMachine}
 use Rattle.demands.specs.Consequences.{lastPrivateRow, lastGroupRow, KnownRows, EveryRowTold, Heeds, NeverStill, Varies}
 use Rattle.demands.specs.Builds.{BuildOf, builtAs, asStep, SameAs, RefusesAll, DiscardsAll, StandsStill, NeverVaries, MakesUpRow}
-use Rattle.demands.specs.SameCall.{KeepsContract, BestCall, SameCall, AnyOrder}
+use Rattle.demands.specs.SameCall.{IsPromised, BestCall, SameCall, AnyOrder}
+use Rattle.demands.specs.BetterLine.{BetterGiven, EitherFirst}
 
 -- ---- Demand 1: whatever comes in gets an answer; what is bad gets its number, and nothing else happens
 
@@ -32,6 +33,8 @@ pub record NumbersGiven : Type 0 where
   pub ofReading : (l : List ℕ) → GivenExactlyWhen (numberOf (readLine l .read)) (lineTable l)
   -- a frame to write: 5, 6
   pub ofWriting : (m : Message) (media : Media) (out : List ℕ) → GivenExactlyWhen (writtenOf m media out .number) (writeTable m media out)
+  -- what a step sends: the same, and no number where it sends nothing
+  pub ofSending : (sent : Send) (media : Media) (out : List ℕ) → GivenExactlyWhen (sendTold sent media out .number) (sendTable sent media out)
   -- a log to answer: 6
   pub ofAnswering : (log out : List ℕ) → GivenExactlyWhen (answerTold log out .number) (answerTable log out)
   -- two lines to choose between: a number of the first, else of the second, else 10
@@ -53,6 +56,8 @@ pub record RefusalsKeep : Type 0 where
   pub byAnswering : (log out : List ℕ) → NothingChanges (answerOf log) (answerTold log out) out (answerBuffer log out)
   -- the chooser
   pub byChoosing : ChooseNothingChanges
+  -- its choice
+  pub byChoice : ChoosesNone
   -- a step of the private call machine
   pub byPrivateStep : StepNothingChanges privateMachine
   -- a step of the group call machine
@@ -85,6 +90,10 @@ pub record ByTheRows (M : Machine) (last : ℕ) : Type 0 where
   pub keepsWellFormed : KeepsWellFormed M
   -- no message of ours is out of range
   pub sendsGood : SendsGood M
+  -- and the line that is sent reads as that message
+  pub readsBack : ReadsBack M
+  -- the rows that clear the record leave the cleared one
+  pub clears : Clears M
   -- the timers that run are those that the commands leave
   pub timersAgree : TimersAgree M
   -- a change of state stops what is not started anew
@@ -111,13 +120,13 @@ pub record MeetsDemands (M : Machine) (b : BuildOf M) : Type 0 where
 pub record ShutsOut (M : Machine) (last : ℕ) : Type 0 where
   -- it is the machine: in all its answers, and in every byte of the buffer
   pub oneBuild : (b : BuildOf M) → MeetsDemands M b → SameAs M b
-  -- so it does not refuse everything
+  -- so from no well-formed record it refuses everything
   pub refusing : (b : BuildOf M) → MeetsDemands M b → RefusesAll M b → ⊥
-  -- its reply varies
+  -- in what it does not refuse, its reply varies
   pub unvarying : (b : BuildOf M) → MeetsDemands M b → NeverVaries M b → ⊥
-  -- it does not discard every event
+  -- from no well-formed record it discards every event
   pub discarding : (b : BuildOf M) → MeetsDemands M b → DiscardsAll M b → ⊥
-  -- it heeds more than a first event
+  -- it does not obey a first event and stand still
   pub standingStill : (b : BuildOf M) → MeetsDemands M b → StandsStill M b → ⊥
   -- it has no row of its own
   pub makingUp : (b : BuildOf M) → MeetsDemands M b → MakesUpRow M last b → ⊥
@@ -137,13 +146,17 @@ pub record Demand2 : Type 0 where
 
 -- ---- Demand 3: two cabs of one group in S3 that know of the same calls end in the same call, the best of them
 
--- demand 3: every build that keeps the contract of the group step does so
+-- demand 3: every build whose answers are those that the contract of the group step names does so, and of two lines the chooser gives that of the better call
 pub record Demand3 : Type 0 where
   -- one cab ends in the best call that it knows of
-  pub oneCab : (b : Build) → KeepsContract b → BestCall b
+  pub oneCab : (b : Build) → IsPromised b → BestCall b
   -- two cabs end in the same one
-  pub twoCabs : (b : Build) → KeepsContract b → SameCall b
+  pub twoCabs : (b : Build) → IsPromised b → SameCall b
   -- order, repeats, unreadable lines and other traffic count for nothing
-  pub anyOrder : (b : Build) → KeepsContract b → AnyOrder b
+  pub anyOrder : (b : Build) → IsPromised b → AnyOrder b
   -- a build that meets the first two demands meets this one
   pub fromTheOthers : (b : BuildOf groupMachine) → MeetsDemands groupMachine b → SameCall (asStep b)
+  -- of two announcement lines the one handed back is that of the better call
+  pub betterLine : BetterGiven
+  -- whichever is lent first
+  pub eitherFirst : EitherFirst

@@ -14,6 +14,7 @@ use Rattle.log.specs.Answer.{answerOf}
 use Rattle.call.specs.Settings.{settingsGood}
 use Rattle.call.specs.declared.Settings.{Settings}
 use Rattle.call.specs.declared.Input.{Input}
+use Rattle.call.specs.declared.Send.{Send}
 use Rattle.step_numbers.specs.Numbers.{heardGood, argumentsGood}
 use Rattle.chooser.specs.NoChoice.{NoChoice}
 use Rattle.demands.specs.Totals.{totals}
@@ -74,6 +75,11 @@ lineTable l = (1, Unended l) ∷ (2, Undigital l) ∷ (3, Unkind l) ∷ (4, Misf
 -- the writer's table
 abbrev pub writeTable : Message → Media → List ℕ → List (ℕ × Type 0)
 writeTable m media out = (5, inRange m media ≡ false) ∷ (6, length out < length (lineOf m media)) ∷ []
+
+-- the table of what a step sends: the writer's where it is a message, and nothing is refused where it is nothing
+abbrev pub sendTable : Send → Media → List ℕ → List (ℕ × Type 0)
+sendTable Send.Nothing media out = []
+sendTable (Send.Message m) media out = writeTable m media out
 
 -- ---- a log to answer: 6, the buffer has no room for the answer
 

@@ -5,6 +5,7 @@ pub mod NothingChanges
 pub mod Consequences
 pub mod Builds
 pub mod SameCall
+pub mod BetterLine
 pub mod TwoCabs
 pub mod MarkedCases
 pub mod RowPlays

@@ -1,16 +1,17 @@
 -- A call machine, what is asked of the steps of every one, and the two that there are. Assumes nothing.
 use mathlib.Core.Path.{_≡_}
+use mathlib.Core.Logic.{_⊎_}
 use mathlib.Core.List.{List}
-use mathlib.Core.Bool.{Bool, true, false}
+use mathlib.Core.Bool.{Bool, true, false, not, _&&_, _||_}
 use Prim.Native.Nat.{ℕ, _≤_}
-use lib.ListN.{length}
-use Rattle.frame.specs.Frame.{inRange}
+use lib.ListN.{length, take}
+use Rattle.frame.specs.Frame.{kindOf, mediaOf, inRange}
 use Rattle.frame.specs.declared.Media.{Media}
 use Rattle.frame.specs.declared.Message.{Message}
+use Rattle.reader.specs.Line.{reading, readLine}
 use Rattle.writer.specs.Lent.{atFront}
 use Rattle.call.specs.Settings.{settingsGood}
 use Rattle.call.specs.Request.{requestOf}
-use Rattle.call.specs.Timing.{runsAfter}
 use Rattle.call.specs.declared.Settings.{Settings}
 use Rattle.call.specs.declared.PrivateTimer.{PrivateTimer}
 use Rattle.call.specs.declared.GroupTimer.{GroupTimer}
@@ -27,7 +28,7 @@ use Rattle.private_record.specs.declared.states.PrivateRecord.{PrivateRecord}
 use Rattle.private_record.specs.declared.rows.Row.the-variants.{R1}
 use Rattle.private_rows.specs.Rows.{rowOf}
 use Rattle.private_carried.specs.Carried as Carried
-use Rattle.private_call.specs.Step.{doneOf, stepLine, movedOf, stepOf, stepBuffer}
+use Rattle.private_call.specs.Step.{doneOf, answerMet, stepOf, stepBuffer}
 use Rattle.private_call.specs.declared.Stepped.{Stepped}
 use Rattle.group_record.specs.States as GroupStates
 use Rattle.group_record.specs.Formed as GroupFormed
@@ -76,13 +77,17 @@ pub record Machine : Type 1 where
   pub ranOut : Event → Timers
   -- a record is well formed under the settings
   pub wellFormed : Settings → Stored → Bool
+  -- the cleared record
+  pub cleared : Stored
+  -- the rows that clear the record
+  pub Clearing : ℕ → Type 0
   -- the row that is met refuses, with 8
   pub RefusedByRow : Settings → Stored → Input → Type 0
   -- what the row that is met sends
   pub sent : Settings → Stored → Input → Send
   -- the media that stands beside it: that of the next record
   pub media : Settings → Stored → Input → Media
-  -- the answer that the row that is met asks for: its number and what carrying it out gives, with the length of its line
+  -- the answer that the row that is met asks for: row 0 changes nothing, any other row is carried out, with the length of its line
   pub carried : Settings → Stored → Input → Answer Stored Timers
   -- the answer of a step with a lent buffer
   pub step : Settings → Stored → Input → List ℕ → Answer Stored Timers
@@ -120,9 +125,13 @@ pub record Unrefused (M : Machine) (s : Settings) (p : M .Stored) (i : Input) : 
   -- nor the 8 of a row
   pub row : M .RefusedByRow s p i → ⊥
 
--- an answer as the row that is met says: row, next record, timers to stop, then to start, and its line at the front of the buffer
+-- an answer, and the buffer after it, as the row that is met says: row, next record, timers to stop, then to start, and its line at the front of the buffer
+abbrev pub ByRow : (M : Machine) → Settings → M .Stored → Input → List ℕ → Answer (M .Stored) (M .Timers) → List ℕ → Type 0
+ByRow M s p i lent answer after = (answer ≡ M .carried s p i) × (after ≡ atFront (lineToSend M s p i) lent)
+
+-- a step answers so
 abbrev pub AnswersByRow : (M : Machine) → Settings → M .Stored → Input → List ℕ → Type 0
-AnswersByRow M s p i out = (M .step s p i out ≡ M .carried s p i) × (M .buffer s p i out ≡ atFront (lineToSend M s p i) out)
+AnswersByRow M s p i out = ByRow M s p i out (M .step s p i out) (M .buffer s p i out)
 
 -- a step with number 0 answers so
 abbrev pub CarriesOut : Machine → Type 0
@@ -144,12 +153,29 @@ abbrev pub SendsGood : Machine → Type 0
 SendsGood M =
     (s : Settings) (p : M .Stored) (i : Input) → Unrefused M s p i → (m : Message) → M .sent s p i ≡ Send.Message m → inRange m (M .media s p i) ≡ true
 
+-- the line that is left at the front of the buffer reads as the message that the row sends, with its media where the kind carries media
+abbrev pub FrontReads : (M : Machine) → Settings → M .Stored → Input → Answer (M .Stored) (M .Timers) → List ℕ → Type 0
+FrontReads M s p i answer after =
+    (m : Message) → answer .number ≡ 0 → M .sent s p i ≡ Send.Message m
+    → readLine (take (answer .length) after) ≡ reading m (mediaOf (kindOf m) (M .media s p i))
+
+-- so does that of every step
+abbrev pub ReadsBack : Machine → Type 0
+ReadsBack M = (s : Settings) (p : M .Stored) (i : Input) (out : List ℕ) → FrontReads M s p i (M .step s p i out) (M .buffer s p i out)
+
+-- a step that tells a clearing row leaves the cleared record
+abbrev pub Clears : Machine → Type 0
+Clears M = (s : Settings) (p : M .Stored) (i : Input) (out : List ℕ) → M .Clearing (M .step s p i out .row) → M .step s p i out .next ≡ M .cleared
+
 -- a timer runs after a step that is not refused exactly if it was started, or ran before and was neither stopped nor ran out
 abbrev pub TimersAgree : Machine → Type 0
 TimersAgree M =
-    (s : Settings) (p : M .Stored) (i : Input) (out : List ℕ) → M .step s p i out .number ≡ 0 → (t : M .Timer)
-    → M .has (M .running (M .step s p i out .next)) t
-    ≡ runsAfter (M .has (M .running p) t) (M .has (M .step s p i out .stop) t) (M .has (M .ranOut (i .event)) t) (M .has (M .step s p i out .start) t)
+    (s : Settings) (p : M .Stored) (i : Input) (out : List ℕ) → M .step s p i out .number ≡ 0 → (t : M .Timer) → let result = M .step s p i out in
+    let ran = M .has (M .running p) t in
+    let ranOut = M .has (M .ranOut (i .event)) t in
+    let stopped = M .has (result .stop) t in
+    let started = M .has (result .start) t in
+    M .has (M .running (result .next)) t ≡ (started || (ran && (not stopped && not ranOut)))
 
 -- leaving a state stops each timer that runs there, if it is not started anew and did not just run out
 abbrev pub ChangeStops : Machine → Type 0
@@ -187,10 +213,12 @@ privateMachine =
       changes = λ p q. Carried.changes (p .state) (q .state);
       ranOut = Carried.ranOut;
       wellFormed = Formed.wellFormed;
+      cleared = Formed.clearedRecord;
+      Clearing = λ row. row ≡ 28;
       RefusedByRow = IdentifierStored;
       sent = λ s p i. doneOf s p i .sent;
       media = λ s p i. doneOf s p i .next .call .media;
-      carried = λ s p i. privateAnswer (movedOf (rowOf s p i) (doneOf s p i) (length (stepLine s p i)));
+      carried = λ s p i. privateAnswer (answerMet s p i);
       step = λ s p i out. privateAnswer (stepOf s p i out);
       buffer = stepBuffer;
     }
@@ -218,10 +246,12 @@ groupMachine =
       changes = λ g h. GroupCarried.changes (g .state) (h .state);
       ranOut = GroupCarried.ranOut;
       wellFormed = GroupFormed.wellFormed;
+      cleared = GroupFormed.clearedRecord;
+      Clearing = λ row. (row ≡ 7) ⊎ (row ≡ 8);
       RefusedByRow = ChangeNotLater;
       sent = λ s g i. GroupStep.doneOf s g i .sent;
       media = λ s g i. GroupStep.doneOf s g i .next .media;
-      carried = λ s g i. groupAnswer (GroupStep.movedOf (GroupRows.rowOf s g (i .event)) (GroupStep.doneOf s g i) (length (GroupStep.stepLine s g i)));
+      carried = λ s g i. groupAnswer (GroupStep.answerMet s g i);
       step = λ s g i out. groupAnswer (GroupStep.stepOf s g i out);
       buffer = GroupStep.stepBuffer;
     }

@@ -1,5 +1,6 @@
 -- A refusal changes nothing, and what is not refused changes only what it says. Assumes nothing.
 use mathlib.Core.Path.{_≡_}
+use mathlib.Core.Logic.{_↔_}
 use mathlib.Core.List.{List, []}
 use Prim.Native.Nat.{ℕ}
 use lib.ListN.{length}
@@ -39,6 +40,10 @@ ChooseNothingChanges =
     (first second : RefT (List ℕ)) → (choiceNumber (first .now) (second .now) ≡ 0 → ⊥)
     → placeOf (choiceOf (first .now) (second .now)) first second ≡ (first .ptr, [])
 
+-- it chooses neither line exactly where its question has a number
+abbrev pub ChoosesNone : Type 0
+ChoosesNone = (first second : List ℕ) → (choiceOf first second ≡ 0) ↔ (choiceNumber first second ≡ 0 → ⊥)
+
 -- ---- a step of a call machine
 
 -- nothing was done: the record is the stored one, there is no row, no timer to stop or to start and no line, and every byte of the buffer is what it was
@@ -46,10 +51,13 @@ abbrev pub StepKept : (M : Machine) → M .Stored → Answer (M .Stored) (M .Tim
 StepKept M stored result lent after =
     (result .next ≡ stored) × (result .row ≡ 0) × (result .stop ≡ M .noTimer) × (result .start ≡ M .noTimer) × Kept (result .length) lent after
 
--- a step: a number that is not 0 changes nothing, nor does row 0; and number 0 writes the line and nothing else
+-- an answer, and the buffer after it: a number that is not 0 changes nothing, nor does row 0; and number 0 writes the line and nothing else
+abbrev pub StepKeeps : (M : Machine) → Settings → M .Stored → Input → List ℕ → Answer (M .Stored) (M .Timers) → List ℕ → Type 0
+StepKeeps M s p i lent answer after =
+    (((answer .number ≡ 0) → ⊥) → StepKept M p answer lent after) × (answer .row ≡ 0 → StepKept M p answer lent after)
+    × (answer .number ≡ 0 → Done (lineToSend M s p i) (answer .length) lent after)
+
+-- so does every step
 abbrev pub StepNothingChanges : Machine → Type 0
 StepNothingChanges M =
-    (s : Settings) (p : M .Stored) (i : Input) (out : List ℕ) → let result = M .step s p i out in
-    let after = M .buffer s p i out in
-    (((result .number ≡ 0) → ⊥) → StepKept M p result out after) × (result .row ≡ 0 → StepKept M p result out after)
-    × (result .number ≡ 0 → Done (lineToSend M s p i) (result .length) out after)
+    (s : Settings) (p : M .Stored) (i : Input) (out : List ℕ) → StepKeeps M s p i out (M .step s p i out) (M .buffer s p i out)

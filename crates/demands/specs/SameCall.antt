@@ -130,9 +130,9 @@ pub record EndTogether (b : Build) (x y : Cab) : Type 0 where
 
 -- ---- the demand
 
--- a build keeps the contract of the step
-abbrev pub KeepsContract : Build → Type 0
-KeepsContract b = (s : Settings) (g : GroupRecord) (i : Input) (out : List ℕ) → b s g i out ≡ promised s g i out
+-- every answer of a build is the one that the contract of the step names
+abbrev pub IsPromised : Build → Type 0
+IsPromised b = (s : Settings) (g : GroupRecord) (i : Input) (out : List ℕ) → b s g i out ≡ promised s g i out
 
 -- a build brings one cab to the best call that it knows of, where calls with the same identifier are alike
 abbrev pub BestCall : Build → Type 0

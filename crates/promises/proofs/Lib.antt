@@ -1,3 +1,4 @@
-pub mod Promised
+pub mod Allows
+pub mod DemandsKept
 pub mod OneAnswer
 pub mod Entries

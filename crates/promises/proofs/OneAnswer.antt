@@ -2,19 +2,22 @@
 use mathlib.Core.Path.{_≡_, refl, sym, _∙_}
 use contract.Lifetimes as Lifetimes
 use Rattle.frame.proofs.range.in_range.Reads as in-range
-use Rattle.frame.proofs.carried.media_none.Reads as media-none
+use Rattle.frame.proofs.Media.is_none.Reads as media-is-none
 use Rattle.reader.proofs.check_line.Reads as check-line
 use Rattle.reader.proofs.read_line.Reads as read-line
 use Rattle.writer.proofs.write_line.Reads as write-line
 use Rattle.log_lines.proofs.first_line_length.Reads as first-line-length
 use Rattle.log.proofs.answer_log.Reads as answer-log
 use Rattle.call.proofs.request_of.Reads as request-of
-use Rattle.call.proofs.requests.private_request.Reads as private-request
+use Rattle.call.proofs.Request.private.Reads as request-private
+use Rattle.call.proofs.Settings.restricted.Reads as settings-restricted
+use Rattle.call.proofs.timers.TimerFacts.is_stopped.Reads as timer-is-stopped
+use Rattle.call.proofs.timers.TimerFacts.runs_after.Reads as timer-runs-after
 use Rattle.announced.proofs.announced_of.Reads as announced-of
 use Rattle.step_numbers.proofs.number_before_row.Reads as number-before-row
 use Rattle.stepping.proofs.write_sent.Reads as write-sent
 use Rattle.private_record.proofs.well_formed.Reads as well-formed
-use Rattle.private_record.proofs.states.cleared_record.Reads as cleared-record
+use Rattle.private_record.proofs.states.PrivateRecord.cleared.Reads as private-cleared
 use Rattle.private_rows.proofs.row_of.Reads as row-of
 use Rattle.private_effects.proofs.effect_of.Reads as effect-of
 use Rattle.private_carried.proofs.carry_out.Reads as carry-out
@@ -26,7 +29,7 @@ use Rattle.chooser.proofs.choose_number.Reads as choose-number
 use Rattle.chooser.proofs.choose.Reads as choose
 use Rattle.chooser.specs.Choice.{place}
 use Rattle.group_record.proofs.well_formed.Reads as group-well-formed
-use Rattle.group_record.proofs.states.cleared_record.Reads as group-cleared-record
+use Rattle.group_record.proofs.states.GroupRecord.cleared.Reads as group-cleared
 use Rattle.group_rows.proofs.row_of.Reads as group-row-of
 use Rattle.group_effects.proofs.effect_of.Reads as group-effect-of
 use Rattle.group_carried.proofs.carry_out.Reads as group-carry-out
@@ -56,8 +59,8 @@ pub in-range-one : (κs : Lifetimes.Lfts 0) → OneAnswer (in-range.Asked κs) (
 in-range-one κs = result-alone (λ a. tt) (λ a r q s t x y. same x y)
 
 -- whether there is no media
-pub media-none-one : (κs : Lifetimes.Lfts 0) → OneAnswer (media-none.Asked κs) (media-none.Learnt κs) (λ r. r) (λ t. tt {0})
-media-none-one κs = result-alone (λ a. tt) (λ a r q s t x y. same x y)
+pub media-is-none-one : (κs : Lifetimes.Lfts 0) → OneAnswer (media-is-none.Asked κs) (media-is-none.Learnt κs) (λ r. r) (λ t. tt {0})
+media-is-none-one κs = result-alone (λ a. tt) (λ a r q s t x y. same x y)
 
 -- the number of a line
 pub check-line-one : (κs : Lifetimes.Lfts 1) → OneAnswer (check-line.Asked κs) (check-line.Learnt κs) (λ r. r) (λ t. tt {0})
@@ -84,8 +87,20 @@ pub request-of-one : (κs : Lifetimes.Lfts 0) → OneAnswer (request-of.Asked κ
 request-of-one κs = result-alone (λ a. tt) (λ a r q s t x y. same x y)
 
 -- the setup request of a private call
-pub private-request-one : (κs : Lifetimes.Lfts 0) → OneAnswer (private-request.Asked κs) (private-request.Learnt κs) (λ r. r) (λ t. tt {0})
-private-request-one κs = result-alone (λ a. tt) (λ a r q s t x y. same x y)
+pub request-private-one : (κs : Lifetimes.Lfts 0) → OneAnswer (request-private.Asked κs) (request-private.Learnt κs) (λ r. r) (λ t. tt {0})
+request-private-one κs = result-alone (λ a. tt) (λ a r q s t x y. same x y)
+
+-- whether reasons are kept back
+pub settings-restricted-one : (κs : Lifetimes.Lfts 0) → OneAnswer (settings-restricted.Asked κs) (settings-restricted.Learnt κs) (λ r. r) (λ t. tt {0})
+settings-restricted-one κs = result-alone (λ a. tt) (λ a r q s t x y. same x y)
+
+-- whether a timer is stopped
+pub timer-is-stopped-one : (κs : Lifetimes.Lfts 0) → OneAnswer (timer-is-stopped.Asked κs) (timer-is-stopped.Learnt κs) (λ r. r) (λ t. tt {0})
+timer-is-stopped-one κs = result-alone (λ a. tt) (λ a r q s t x y. same x y)
+
+-- whether a timer runs afterwards
+pub timer-runs-after-one : (κs : Lifetimes.Lfts 0) → OneAnswer (timer-runs-after.Asked κs) (timer-runs-after.Learnt κs) (λ r. r) (λ t. tt {0})
+timer-runs-after-one κs = result-alone (λ a. tt) (λ a r q s t x y. same x y)
 
 -- the announcement that an event brings
 pub announced-of-one : (κs : Lifetimes.Lfts 0) → OneAnswer (announced-of.Asked κs) (announced-of.Learnt κs) (λ r. r) (λ t. tt {0})
@@ -104,8 +119,8 @@ pub well-formed-one : (κs : Lifetimes.Lfts 0) → OneAnswer (well-formed.Asked 
 well-formed-one κs = result-alone (λ a. tt) (λ a r q s t x y. same x y)
 
 -- the cleared record
-pub cleared-record-one : (κs : Lifetimes.Lfts 0) → OneAnswer (cleared-record.Asked κs) (cleared-record.Learnt κs) (λ r. r) (λ t. tt {0})
-cleared-record-one κs = result-alone (λ a. tt) (λ a r q s t x y. same x y)
+pub private-cleared-one : (κs : Lifetimes.Lfts 0) → OneAnswer (private-cleared.Asked κs) (private-cleared.Learnt κs) (λ r. r) (λ t. tt {0})
+private-cleared-one κs = result-alone (λ a. tt) (λ a r q s t x y. same x y)
 
 -- the row that an event meets
 pub row-of-one : (κs : Lifetimes.Lfts 0) → OneAnswer (row-of.Asked κs) (row-of.Learnt κs) (λ r. r) (λ t. tt {0})
@@ -148,8 +163,8 @@ pub group-well-formed-one : (κs : Lifetimes.Lfts 0) → OneAnswer (group-well-f
 group-well-formed-one κs = result-alone (λ a. tt) (λ a r q s t x y. same x y)
 
 -- the cleared group record
-pub group-cleared-record-one : (κs : Lifetimes.Lfts 0) → OneAnswer (group-cleared-record.Asked κs) (group-cleared-record.Learnt κs) (λ r. r) (λ t. tt {0})
-group-cleared-record-one κs = result-alone (λ a. tt) (λ a r q s t x y. same x y)
+pub group-cleared-one : (κs : Lifetimes.Lfts 0) → OneAnswer (group-cleared.Asked κs) (group-cleared.Learnt κs) (λ r. r) (λ t. tt {0})
+group-cleared-one κs = result-alone (λ a. tt) (λ a r q s t x y. same x y)
 
 -- the group row that an event meets
 pub group-row-of-one : (κs : Lifetimes.Lfts 0) → OneAnswer (group-row-of.Asked κs) (group-row-of.Learnt κs) (λ r. r) (λ t. tt {0})

@@ -1,1 +1,3 @@
+pub mod DemandsKept
+pub mod Contracts
 pub mod OneAnswer

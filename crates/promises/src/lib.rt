@@ -1,2 +1,2 @@
-// The contracts by their own reading: what a caller learns, that it leaves no choice, and that C is told the same. Read
-// specs/ first, then proofs/.
+// The contracts by their own reading: they keep the demands, leave no choice, and tell C the same. Read specs/ first,
+// then proofs/.

@@ -12,11 +12,12 @@ fail() {
     exit 2
 }
 
-# Prints the rows of a machine as plain lines. Told: its name, then the definitions of what its rows ask, of what they do, of what runs in a
-# state, and of what holds for all rows.
+# Prints the rows of a machine as plain lines. Told: its name, then the folder of the definitions of what its rows ask, and the definitions
+# of what they do, of what runs in a state, and of what holds for all rows.
 rows() {
-    awk -v words="host/pictures/$1.words" -v asking="crates/$2" -v doing="crates/$3" -v running="crates/$4" -v carrying="crates/$5" \
-        -f host/pictures/terms.awk -f host/pictures/asks.awk -f host/pictures/rows.awk </dev/null
+    awk -v command=host/pictures.sh -v words="host/pictures/$1.words" -v causing="crates/$2/Causes.antt" -v wording="crates/$2/Asking.antt" \
+        -v asking="crates/$2/Rows.antt" -v doing="crates/$3" -v running="crates/$4" -v carrying="crates/$5" \
+        -f host/pictures/terms.awk -f host/pictures/asks.awk -f host/pictures/tables.awk -f host/pictures/rows.awk </dev/null
 }
 
 # Prints the picture of a machine whose rows are in a file: its name, the file, its title, and what it is about.
@@ -34,11 +35,11 @@ draw() {
 room=$(mktemp -d) || exit 2
 trap 'rm -rf "$room"' EXIT
 
-draw private-call private_rows/specs/Rows.antt private_effects/specs/Effects.antt private_record/specs/Phases.antt \
+draw private-call private_rows/specs private_effects/specs/Effects.antt private_record/specs/Phases.antt \
     private_carried/specs/Carried.antt "The private call machine" \
     "The states P0 to P5 as boxes, each with the timers that run in it and the rows that stay in it; the rows R1 to R29 that lead from one \
 state to another as arrows, each with what causes it and what it does."
-draw group-call group_rows/specs/Rows.antt group_effects/specs/Effects.antt group_record/specs/States.antt \
+draw group-call group_rows/specs group_effects/specs/Effects.antt group_record/specs/States.antt \
     group_carried/specs/Carried.antt "The group call machine" \
     "The states S1, S3, S4 and S5 as boxes, each with the timers that run in it and the rows that stay in it; the rows G1 to G11 that lead \
 from one state to another as arrows, each with what causes it and what it does."

@@ -1,9 +1,9 @@
 # The definitions of a file *.antt, and what a term is once the definitions in it are filled in.
 # A clause `name a b = body` may go on in indented lines. Tokens are words, brackets, `;` and `,`, with a blank between two of them.
 
-# Gives up with one line that names the file and what is wrong with it.
+# Gives up with one line that names the file and what is wrong with it; `command`, told by -v, is who says so.
 function refuse(file, what) {
-    print "host/pictures.sh: " file ": " what >"/dev/stderr"
+    print command ": " file ": " what >"/dev/stderr"
     exit 2
 }
 
@@ -19,24 +19,35 @@ function spaced(line) {
 }
 
 # Reads the clauses of a file: see `keep_clause`.
-function load(path, line, whole, got) {
+function load(path, kept, line, whole, got) {
     while ((got = (getline line <path)) > 0) {
         if (line ~ /^[ \t]+[^ \t]/) {
             whole = whole " " spaced(line)
             continue
         }
-        keep_clause(whole)
+        keep_clause(path, whole, kept)
         whole = (line ~ /^(use|abbrev|unfoldable) /) ? "" : spaced(line)
     }
     if (got < 0) refuse(path, "may not be read")
-    keep_clause(whole)
+    keep_clause(path, whole, kept)
     close(path)
 }
 
-# Keeps one clause: by its name how often there is one, its parameters and its body; and by name and first parameter the body too.
-function keep_clause(whole, at, left, n, i) {
+# Keeps one clause: its text; by its name how often there is one, its parameters and its body; and by name and first parameter the body too.
+# Where `kept` is "text", that and how often there is one are all, and the name does not stand for its definition in a term; where it is
+# "quote", the file does not define the clause but quotes it, and this is all that is kept.
+function keep_clause(path, whole, kept, at, left, n, i) {
     if (!(at = index(whole, " = "))) return
     n = split(substr(whole, 1, at - 1), left, " ")
+    if (kept == "quote") {
+        quote_at[++quotes] = whole
+        quote_of[quotes] = left[1]
+        quote_in[quotes] = path
+        return
+    }
+    is_clause[whole] = 1
+    defined[left[1]]++
+    if (kept == "text") return
     clauses[left[1]]++
     arity[left[1]] = n - 1
     for (i = 2; i <= n; i++) parameter[left[1], i - 1] = left[i]

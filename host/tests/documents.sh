@@ -7,16 +7,26 @@ cd "$(dirname "${BASH_SOURCE[0]}")/../.." || exit 2
 # The crates of crates.txt.
 listed() { sed 's/#.*//' crates.txt | sed -n 's/^[[:space:]]*\([a-z0-9_]*\):.*/\1/p'; }
 
-# CRATE::NAME or CRATE::MODULE::NAME for each public function of a library; methods by their type are not told apart.
+# The public functions of a library, CRATE::NAME, with the module ahead of the name and, where it is a method, the type: a method stands in
+# the module of its type, whichever file has it.
 public_functions() {
-    local crate file path
+    local crate
     for crate in $(listed); do
         [ -f "crates/$crate/src/lib.rt" ] || continue
-        for file in "crates/$crate/src"/*.rt; do
-            path=$crate
-            [ "$(basename "$file" .rt)" = lib ] || path=$crate::$(basename "$file" .rt)
-            sed -n "s/^[[:space:]]*pub \(extern \"C\" \)\{0,1\}fn \([a-z0-9_]*\).*/$path::\2/p" "$file"
-        done
+        awk -v crate="$crate" '
+            FNR == 1 {
+                module = FILENAME
+                gsub(/.*\/|\.rt$/, "", module)
+                path = module == "lib" ? crate : crate "::" module
+            }
+            /^pub (struct|enum) / { place[$3] = path }
+            /^impl / { type = $2 }
+            /^}/ { type = "" }
+            pass == 2 && /^ *pub (extern "C" )?fn / {
+                sub(/^ *pub (extern "C" )?fn /, "")
+                sub(/[^a-z0-9_].*/, "")
+                print (type == "" ? path : place[type] "::" type) "::" $0
+            }' pass=1 "crates/$crate/src"/*.rt pass=2 "crates/$crate/src"/*.rt
     done
 }
 
@@ -59,11 +69,32 @@ for name in $(public_functions); do
 done
 verdict "every public function has its theorem of one answer" "$wrong"
 
+# Prints NAME|MARK|INPUT for each row of a table of docs/PROMISES.md that names an edit: the mark stands behind the name.
+rows() { awk -F ' *[|] *' '/^[|].*`[a-z_]+\/[a-z0-9_]+`/ { split($3, edit, /`,? */); print edit[2] "|" edit[3] "|" $4 }' docs/PROMISES.md; }
+
+wrong=$(comm -3 <(edits) <(rows | cut -d '|' -f 1 | sort -u) | paste -s -d ' ')
+verdict "the tables of docs/PROMISES.md have every must-fail edit, and no other" "$wrong"
+
+# Whether what a row says of an input, the first word, ends in what is promised there and in something else that comes of it, by the second.
+differs() {
+    [[ $1 =~ ^(.*:\ )?(.+)\ promised,\ (.+)\ $2(,\ .+)?$ ]] && [[ " ${BASH_REMATCH[2]}" != *" ${BASH_REMATCH[3]}" ]]
+}
+
 wrong=''
-for name in $(edits); do
-    grep -qF "\`$name\`" docs/PROMISES.md || wrong="$wrong $name"
-done
-verdict "docs/PROMISES.md has every must-fail edit" "$wrong"
+while IFS='|' read -r name mark input; do
+    kind='' by=told
+    if grep -q '^file: specs/' "crates/${name%/*}/must-fail/${name#*/}.edit"; then
+        kind=definition by='by the changed definition'
+        [[ $name != demands/* && $name != promises/* ]] || kind=statement
+    fi
+    [ "$mark" = "$kind" ] && { [ "$kind" = statement ] && [ -n "$input" ] || differs "$input" "$by"; } || wrong="$wrong $name:$mark:$input"
+done < <(rows)
+verdict "every wrong program of docs/PROMISES.md names an input on which it differs, and is marked where it changes a definition" "$wrong"
+
+# Where the wrong program of the chooser differs is a place in memory, which no program tells.
+wrong=$(comm -3 <(grep -l '^file: src/' crates/*/must-fail/*.edit | sed 's|^crates/\(.*\)/must-fail/\(.*\)\.edit$|\1/\2|' | grep -vx chooser/empty_part_of_the_second | sort) \
+    <(sed -n 's|^\([a-z_]*/[a-z0-9_]*\): .*|\1|p' host/wrong.txt | sort -u) | paste -s -d ' ')
+verdict "host/wrong.txt has an input for every edit of a program but one" "$wrong"
 
 wrong=''
 for page in docs/ROWS.md docs/PROMISES.md docs/DEMANDS.md docs/SLIPS.md; do
@@ -73,13 +104,26 @@ for page in docs/ROWS.md docs/PROMISES.md docs/DEMANDS.md docs/SLIPS.md; do
 done
 verdict "every edit that docs/ROWS.md, docs/PROMISES.md, docs/DEMANDS.md and docs/SLIPS.md name is there" "$wrong"
 
-wrong=''
-for page in docs/ROWS.md docs/PROMISES.md docs/DEMANDS.md docs/SLIPS.md; do
-    for name in $(quoted "$page" | grep -E '^[A-Za-z][A-Za-z0-9_:·-]*$' | sed 's/.*:://'); do
-        grep -rqwF -- "$name" crates .ci || wrong="$wrong $page:$name"
+# Prints PAGE:NAME for each name that a page cites, but for docs/CHANGES.md, which tells of names that were: its arguments, and what stands
+# ahead of `::` or of the point of a method, are left out. A name may be that of a file.
+cited() {
+    local page
+    for page in README.md docs/*.md; do
+        [ "$page" = docs/CHANGES.md ] || quoted "$page" | sed -E 's/^[a-z_]+\.([a-z_]+\(\))$/\1/; s/\(.*\)$//; s/.*:://' |
+            grep -E '^[A-Za-z][A-Za-z0-9_-]*(\.(antt|rt|h|sh|txt))?$' | sed "s|^|$page:|"
     done
-done
-verdict "every name that docs/ROWS.md, docs/PROMISES.md, docs/DEMANDS.md and docs/SLIPS.md cite stands in a crate" "$wrong"
+}
+
+# Prints those of them that are not among the names of a list, one a line.
+unknown() { awk -F : 'NR == FNR { known[$0]; next } !($2 in known)' "$1" - | paste -s -d ' '; }
+
+wrong=$(cited | unknown <(grep -rhoaE '[A-Za-z][A-Za-z0-9_-]*' crates .ci host/*.sh && find crates host crates.txt -printf '%f\n'))
+verdict "every name that README.md and docs/ cite stands in a crate or in a script" "$wrong"
+
+# The names of docs/DRILL.md are words of its scripts.
+wrong=$(cited | grep -v '^docs/DRILL.md:' | grep -E ':[a-z0-9]+(-[A-Za-z0-9]+)+$' |
+    unknown <(grep -rhoE --include='*.antt' '^ *(abbrev |unfoldable )?(pub )?[a-z0-9]+(-[A-Za-z0-9]+)+ :' crates | sed -E 's/ :$//; s/.* //'))
+verdict "every theorem that README.md and docs/ cite is stated" "$wrong"
 
 wrong=''
 for page in README.md docs/*.md; do

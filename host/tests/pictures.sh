@@ -7,31 +7,17 @@ room=$(mktemp -d) || exit 2
 trap 'rm -rf "$room"' EXIT
 
 private_rows=crates/private_rows/specs/Rows.antt
+private_asking=crates/private_rows/specs/Asking.antt
 private_effects=crates/private_effects/specs/Effects.antt
 private_phases=crates/private_record/specs/Phases.antt
 group_rows=crates/group_rows/specs/Rows.antt
 group_effects=crates/group_effects/specs/Effects.antt
-tables="$private_rows $private_effects $private_phases $group_rows $group_effects crates/group_record/specs/States.antt
-    crates/private_carried/specs/Carried.antt crates/group_carried/specs/Carried.antt"
+tables="$(echo crates/{private,group}_rows/specs/{Causes,Asking,Rows}.antt) $private_effects $private_phases $group_effects
+    crates/group_record/specs/States.antt crates/private_carried/specs/Carried.antt crates/group_carried/specs/Carried.antt"
 pictures="docs/private-call.svg docs/group-call.svg"
-
-# Makes $room/tree anew: the command, what it reads, and both pictures.
-plant() {
-    local file
-    rm -rf "$room/tree"
-    for file in $tables $pictures host/pictures.sh host/pictures/*; do
-        mkdir -p "$room/tree/$(dirname "$file")" && cp "$file" "$room/tree/$file" || exit 2
-    done
-}
-
-# Runs the command of $room/tree with these words.
-run() { bash "$room/tree/host/pictures.sh" "$@" >"$room/wrote" 2>"$room/said" </dev/null; }
-
-# Changes a file of $room/tree by a command of sed; says so where that changes nothing.
-change() {
-    sed "$2" "$1" >"$room/tree/$1"
-    ! cmp -s "$1" "$room/tree/$1" || verdict "$1 is changed by $2" "it is not"
-}
+command=host/pictures.sh
+planted="$tables $pictures $(echo host/pictures/*)"
+. host/planted.sh
 
 # Whether the pictures of $room/tree are those that are kept here, in words where they are not.
 untouched() {
@@ -117,7 +103,7 @@ notices "a row that sends something else" $private_effects '/^effectOf R26 /s/Re
 notices "a row that is met in one state less" $private_rows \
     's/(R13, (inState 3 f || (inState 4 f || inState 5 f))/(R13, (inState 4 f || inState 5 f)/' docs/private-call.svg
 notices "a verb that does something else" $group_effects '/^restarts /s/stop = timers/stop = noTimer/' docs/group-call.svg
-notices "a condition that several rows share" $private_rows '/^newRequest /s/Cause.SetupHeard/Cause.RingingHeard/' docs/private-call.svg
+notices "a condition that several rows share" $private_asking '/^newRequest /s/Cause.SetupHeard/Cause.RingingHeard/' docs/private-call.svg
 notices "another timer in a state" crates/group_record/specs/States.antt \
     '/^tfg4 = /s/tfg4 = true; tfg6 = false/tfg4 = false; tfg6 = true/' docs/group-call.svg
 
@@ -152,8 +138,10 @@ refuses "a row that asks nothing known" $private_rows '/(R8, /d' \
 refuses "a condition without a word" $group_rows '/(G9, /s/better_rank/worse_rank/' \
     "$group_rows: G9: host/pictures/group-call.words has no word for the fact worse_rank"
 refuses "a condition of another form" $group_rows '/(G8, /s/inState 3 f/above 3 f/' "$group_rows: G8: cannot read 'above 3'"
-refuses "a plain word that means something else" $private_rows '/^inState n f/s/ n$/ 0/' \
-    "$private_rows: inState: cannot read it, since it is defined in another way"
+refuses "a plain word that means something else" $private_asking '/^inState n f/s/ n$/ 0/' \
+    "$private_asking: inState: cannot read it, since it is defined in another way"
+refuses "causes that are compared in another way" crates/group_rows/specs/Causes.antt '/^sameCause c d/s/causeNumber d/causeNumber c/' \
+    "crates/group_rows/specs/Causes.antt: sameCause: cannot read it, since it is defined in another way"
 refuses "a way for which there is no arrow" $private_effects '/^effectOf R8 /s/State.P3 tfp3/State.P0 noTimer/' \
     "host/pictures/private-call.layout: no arrow from P2 to P0, where R8 leads"
 refuses "an arrow through a text" host/pictures/group-call.layout 's/^arrow S1 S3 .*/arrow S1 S3 230,76 230,424/' \

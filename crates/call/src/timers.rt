@@ -10,7 +10,7 @@ pub struct TimerFacts {
     pub ran_out: bool,
     // The row asks for its stop.
     pub stop_asked: bool,
-    // The row starts it.
+    // It is started, by the row or by a rule for all rows.
     pub started: bool,
     // The state changes.
     pub state_changes: bool,

@@ -32,7 +32,7 @@ fn one_more(limit: u8, counter: u8) -> u8
 pub struct CounterFacts {
     // Its timer runs after the step.
     pub runs: bool,
-    // The row starts its timer.
+    // Its timer is started.
     pub started: bool,
     // The row says again what got no reply.
     pub again: bool,

@@ -19,7 +19,7 @@ use Rattle.group_call.specs.declared.Stepped.{Stepped}
 use Rattle.group_call.proofs.Keeping.{carried-sends-good}
 use Rattle.group_call.proofs.Steps.{number-told, step-number, step-answers, step-done, step-refused, row-0-keeps, keeps-well-formed}
 use Rattle.group_call.proofs.Clearing.{rows-7-and-8-clear}
-use Rattle.group_call.proofs.GeneralRules.{step-timers-agree, step-change-stops, step-spares-ran-out}
+use Rattle.group_call.proofs.GeneralRules.{timers-agree, step-change-stops, step-spares-ran-out}
 use Rattle.demands.specs.Machines.{CarriesOut, KeepsWellFormed, SendsGood, Clears, TimersAgree, ChangeStops, SparesRanOut, ChangeNotLater, groupAnswer, groupMachine}
 use Rattle.demands.specs.ExactlyWhen.{StepExactlyWhen}
 use Rattle.demands.specs.NothingChanges.{StepNothingChanges}
@@ -47,7 +47,7 @@ group-clears = rows-7-and-8-clear
 
 -- its timers agree
 pub group-timers-agree : TimersAgree groupMachine
-group-timers-agree s g i out e = step-timers-agree s g i out (sym (number-told s g i out) ∙ e)
+group-timers-agree s g i out e = timers-agree s g i out (sym (number-told s g i out) ∙ e)
 
 -- leaving a state stops its timers
 pub group-change-stops : ChangeStops groupMachine

@@ -7,7 +7,7 @@ use Rattle.private_call.proofs.Keeping.{carried-sends-good}
 use Rattle.private_call.proofs.Steps.{number-told, step-answers, keeps-well-formed}
 use Rattle.private_call.proofs.MarkedSteps.{line-done}
 use Rattle.private_call.proofs.Clearing.{row-28-clears}
-use Rattle.private_call.proofs.GeneralRules.{step-timers-agree, step-change-stops, step-spares-ran-out}
+use Rattle.private_call.proofs.GeneralRules.{timers-agree, step-change-stops, step-spares-ran-out}
 use Rattle.demands.specs.Machines.{CarriesOut, KeepsWellFormed, SendsGood, Clears, TimersAgree, ChangeStops, SparesRanOut, privateAnswer, privateMachine}
 
 -- it carries out the row that is met
@@ -31,7 +31,7 @@ private-clears = row-28-clears
 
 -- its timers agree
 pub private-timers-agree : TimersAgree privateMachine
-private-timers-agree s p i out e = step-timers-agree s p i out (sym (number-told s p i out) ∙ e)
+private-timers-agree s p i out e = timers-agree s p i out (sym (number-told s p i out) ∙ e)
 
 -- leaving a state stops its timers
 pub private-change-stops : ChangeStops privateMachine

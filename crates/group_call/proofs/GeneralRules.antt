@@ -63,9 +63,9 @@ module _ (s : Settings) (g : GroupRecord) (i : Input) where
       stopped-one sets t ∙ spares-one (timerFacts sets t) e
 
   -- what runs afterwards is what was started, and what ran and was neither stopped nor ran out
-  pub step-timers-agree : (out : List ℕ) → stepNumber s g i out ≡ 0 → (t : GroupTimer) → has (stepOf s g i out .next .running) t
+  pub timers-agree : (out : List ℕ) → stepNumber s g i out ≡ 0 → (t : GroupTimer) → has (stepOf s g i out .next .running) t
       ≡ (has (stepOf s g i out .start) t || (has (g .running) t && (not (has (stepOf s g i out .stop) t) && not (has (ranOut (i .event)) t))))
-  step-timers-agree out e t =
+  timers-agree out e t =
       subst (λ (r : Stepped). has (r .next .running) t ≡ (has (r .start) t || (has (g .running) t && (not (has (r .stop) t) && not (has (ranOut (i .event)) t)))))
       (sym (step-done s g i out e .0)) (agree t)
 

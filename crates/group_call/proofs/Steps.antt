@@ -40,8 +40,6 @@ module _ (s : Settings) (g : GroupRecord) (i : Input) where
   abbrev pub moved : Stepped
   moved = movedOf (rowOf s g (i .event)) (doneOf s g i) (length (stepLine s g i))
 
-  -- ---- what a number 0 shows
-
   -- the answer of a row above 0 is what it carries out
   pub answer-of-row : (rowNumber (rowOf s g (i .event)) ≡ 0 → ⊥) → answerMet s g i ≡ moved
   answer-of-row f = rw (ne-eqb (rowNumber (rowOf s g (i .event))) 0 f) refl
@@ -68,6 +66,8 @@ module _ (s : Settings) (g : GroupRecord) (i : Input) where
       go true e =
           let line : stepLine s g i ≡ [] = ap (λ (row : Row). lineWith row s g i) (same-row (rowOf s g (i .event)) Discard e) ∙ discard-sends s g i in
           sym (ap (λ (l : List ℕ). lentAfter (stepNumber s g i out) l out) line ∙ nothing-lent (stepNumber s g i out) out)
+
+  -- ---- what a number 0 shows
 
   -- the tests passed
   pub tests-passed : numberBeforeSending s g i ≡ 0 → Taken s (wellFormed s g) i × (changeTooEarly s g (i .event) (rowOf s g (i .event)) ≡ false)

@@ -84,9 +84,9 @@ module _ (s : Settings) (p : PrivateRecord) (i : Input) (row : Row) where
 
 module _ (s : Settings) (p : PrivateRecord) (i : Input) (out : List ℕ) (e : stepNumber s p i out ≡ 0) where
   -- what runs afterwards is what was started, and what ran and was neither stopped nor ran out
-  pub step-timers-agree : (t : PrivateTimer) → has (stepOf s p i out .next .running) t
+  pub timers-agree : (t : PrivateTimer) → has (stepOf s p i out .next .running) t
       ≡ (has (stepOf s p i out .start) t || (has (p .running) t && (not (has (stepOf s p i out .stop) t) && not (has (ranOut (i .event)) t))))
-  step-timers-agree t =
+  timers-agree t =
       subst (λ (r : Stepped). has (r .next .running) t ≡ (has (r .start) t || (has (p .running) t && (not (has (r .stop) t) && not (has (ranOut (i .event)) t)))))
       (sym (step-done s p i out e)) (agree s p i (rowOf s p i) t)
 

@@ -19,7 +19,7 @@ draw() {
     local folder=crates/$1
     awk -v command=host/rows.sh -v words="host/rows/$1-call.words" -v rules="host/rows/both.rules host/rows/$1-call.rules" \
         -v causing="${folder}_rows/specs/Causes.antt" -v wording="${folder}_rows/specs/Asking.antt" -v asking="${folder}_rows/specs/Rows.antt" \
-        -v doing="${folder}_effects/specs/Effects.antt" -v running="$2" -v carrying="${folder}_carried/specs/Carried.antt" \
+        -v doing="${folder}_call/specs/Effects.antt" -v running="$2" -v carrying="${folder}_call/specs/Carried.antt" \
         -v relied="crates/frame/specs/Media.antt crates/call/specs/Timing.antt crates/call/specs/Meeting.antt $3 ${folder}_call/specs/Step.antt" \
         -f host/pictures/terms.awk -f host/pictures/asks.awk -f host/pictures/tables.awk -f host/rows/table.awk \
         </dev/null >"$room/$1" || exit 2
@@ -51,7 +51,7 @@ trap 'rm -rf "$room"' EXIT
 
 draw private crates/private_record/specs/Phases.antt \
     "crates/call/specs/Settings.antt crates/call/specs/Request.antt crates/private_record/specs/Formed.antt"
-draw group crates/group_record/specs/States.antt "crates/frame/specs/Frame.antt crates/announced/specs/Announced.antt"
+draw group crates/group_record/specs/States.antt "crates/frame/specs/Frame.antt crates/call/specs/Announced.antt"
 [ -r "$page" ] || fail "$page may not be read"
 placed >"$room/page" || fail "$page: the lines between which the tables stand are not there, or not in their order"
 

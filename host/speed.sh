@@ -1,7 +1,7 @@
 #!/usr/bin/env bash
 # host/speed.sh [WORDS...]: measures the proved implementation against the same in C and in Rust, in one run on the same inputs, and prints
 # the figures; --help says what the words may be. Before that it builds, quietly but for a line the first time, where anything has changed:
-# the archives of panel, trial_log and pace, proved and made for this machine, the C of host/speed, or of the folder that BASELINE names, by the
+# the archives of panel, trial and pace, proved and made for this machine, the C of host/speed, or of the folder that BASELINE names, by the
 # words of CC, or cc, and the program that links them.
 set -u
 root=$(cd "$(dirname "${BASH_SOURCE[0]}")/.." && pwd -P) || exit 2
@@ -35,7 +35,7 @@ baseline() {
 }
 
 [ -e "$SPEEDLIB/libpace.a" ] || echo "speed: proving and building it first: a few minutes, once" >&2
-for name in panel trial_log pace; do
+for name in panel trial pace; do
     told=$(bash host/archive.sh $name "$SPEEDLIB" 2>&1) || fail "${told#archive: }"
 done
 baseline "$SPEEDLIB/libbaseline.a" >/dev/null 2>&1 || fail "the C of ${BASELINE:-host/speed} was not compiled by ${CC:-cc}"

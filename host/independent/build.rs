@@ -20,12 +20,12 @@ const PROGRAMS: [Linked; 2] = [
     Linked {
         program: "compare",
         variable: "STATICLIB",
-        archives: &["panel", "trial", "trial_log"],
+        archives: &["panel", "trial"],
     },
     Linked {
         program: "speed",
         variable: "SPEEDLIB",
-        archives: &["panel", "trial_log", "pace", "baseline"],
+        archives: &["panel", "trial", "pace", "baseline"],
     },
 ];
 

@@ -28,7 +28,7 @@ wrongs() {
 # ---- the program and the package it is part of
 
 # Built ahead of the case, so that it does not see it being built for the first time.
-[ -e target/archives/libtrial_log.a ] || bash host/compare.sh --help </dev/null >/dev/null 2>&1
+[ -e target/archives/libtrial.a ] || bash host/compare.sh --help </dev/null >/dev/null 2>&1
 
 bash host/compare.sh --help >"$room/wrote" 2>"$room/said" </dev/null
 ended=$?
@@ -41,7 +41,7 @@ unit_tests "all unit tests of the program compare pass" "$(grep -rhF '#[test]' h
 
 # Prints the functions for C that the crates have, as Rust declares them: a lent slice is a pointer and a length.
 declared() {
-    sed -n 's/^pub extern "C" fn \(.*\)(\(.*\)) -> \(.*\)$/fn \1(\2) -> \3/p' crates/{panel,trial,trial_log}/src/lib.rt |
+    sed -n 's/^pub extern "C" fn \(.*\)(\(.*\)) -> \(.*\)$/fn \1(\2) -> \3/p' crates/{panel,trial}/src/lib.rt |
         sed 's/\([a-z_]*\): &\[\(u8\|u32\)\]/\1: *const \2, \1_len: usize/g
             s/\([a-z_]*\): &mut \[u8\]/\1: *mut u8, \1_len: usize/g' | sort
 }

@@ -8,12 +8,12 @@ trap 'rm -rf "$room"' EXIT
 
 private_rows=crates/private_rows/specs/Rows.antt
 private_asking=crates/private_rows/specs/Asking.antt
-private_effects=crates/private_effects/specs/Effects.antt
+private_effects=crates/private_call/specs/Effects.antt
 private_phases=crates/private_record/specs/Phases.antt
 group_rows=crates/group_rows/specs/Rows.antt
-group_effects=crates/group_effects/specs/Effects.antt
-tables="$(echo crates/{private,group}_rows/specs/{Causes,Asking,Rows}.antt) $private_effects $private_phases $group_effects
-    crates/group_record/specs/States.antt crates/private_carried/specs/Carried.antt crates/group_carried/specs/Carried.antt"
+group_effects=crates/group_call/specs/Effects.antt
+tables="$(echo crates/{private,group}_rows/specs/{Causes,Asking,Rows}.antt crates/{private,group}_call/specs/{Effects,Carried}.antt)
+    $private_phases crates/group_record/specs/States.antt"
 pictures="docs/private-call.svg docs/group-call.svg"
 command=host/pictures.sh
 planted="$tables $pictures $(echo host/pictures/*)"

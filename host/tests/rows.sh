@@ -10,13 +10,12 @@ trap 'rm -rf "$room"' EXIT
 page=docs/ROWS.md
 private=crates/private_rows/specs
 group=crates/group_rows/specs
-private_effects=crates/private_effects/specs/Effects.antt
-group_effects=crates/group_effects/specs/Effects.antt
-private_carried=crates/private_carried/specs/Carried.antt
-definitions="$(echo crates/{private,group}_rows/specs/{Causes,Asking,Rows}.antt crates/{private,group}_carried/specs/Carried.antt)
-    $private_effects $group_effects $(echo crates/private_record/specs/{Phases,Formed}.antt) crates/group_record/specs/States.antt
-    $(echo crates/frame/specs/{Media,Frame}.antt crates/call/specs/{Timing,Meeting,Request,Settings}.antt) crates/announced/specs/Announced.antt
-    $(echo crates/{private,group}_call/specs/Step.antt)"
+private_effects=crates/private_call/specs/Effects.antt
+group_effects=crates/group_call/specs/Effects.antt
+private_carried=crates/private_call/specs/Carried.antt
+definitions="$(echo crates/{private,group}_rows/specs/{Causes,Asking,Rows}.antt crates/{private,group}_call/specs/{Effects,Carried,Step}.antt)
+    $(echo crates/private_record/specs/{Phases,Formed}.antt) crates/group_record/specs/States.antt
+    $(echo crates/frame/specs/{Media,Frame}.antt crates/call/specs/{Timing,Meeting,Request,Settings,Announced}.antt)"
 command=host/rows.sh
 planted="$definitions $page $(echo host/rows/* host/pictures/*.awk)"
 . host/planted.sh
@@ -114,7 +113,7 @@ refuses "another rule of what runs afterwards" crates/call/specs/Timing.antt '/^
     "host/rows/both.rules: no definition reads 'runsAfter x = x .started || ( x .was_running && ( not ( isStopped x ) && not ( x .ran_out ) ) )'"
 refuses "a counter that goes with another timer" $private_carried 's/= running .tfp4;/= running .tfp3;/' \
     "$private_carried: countersAfter: cannot read 'cfp4 = counterAfter ( record { runs = running .tfp3 ; started = started .tfp4 ; again = again ; limit = limits .cfp4 ; was = counters .cfp4 } )'"
-refuses "a store that means something else" crates/group_carried/specs/Carried.antt '/^heldOf Hold.Announced /s/= brought/= stored/' \
+refuses "a store that means something else" crates/group_call/specs/Carried.antt '/^heldOf Hold.Announced /s/= brought/= stored/' \
     "host/rows/group-call.rules: no definition reads 'heldOf Hold.Announced stored brought = brought'"
 refuses "a clause that is not quoted" $private_carried '/^heldOf Hold.Keep /i heldOf hold stored r media = stored' \
     "host/rows/private-call.rules: heldOf: is not quoted whole"
@@ -138,16 +137,16 @@ while read -r name file by; do
     cp "$file" "$room/tree/$file"
     verdict "noticed: another $name of $file" "$([ $ended -ne 0 ] || echo "it is not")"
 done <<'CHANGES'
-stoppedOf private_carried/Carried /^stoppedOf /s/isStopped/runsAfter/
-runningAfter private_carried/Carried /^runningAfter /s/runsAfter/isStopped/
-timerFacts private_carried/Carried s/«stop_asked» = has (x .«stop_asked») t/«stop_asked» = has (x .«ran_out») t/
-startedOf private_carried/Carried s/tfp5 = start .tfp5;/tfp5 = start .tfp4;/
-startedOf private_carried/Carried s/^startedOf state to start/startedOf to state start/
-startedBy private_carried/Carried /^startedBy /s/(x .to)/state/
-countersAfter private_carried/Carried s/^countersAfter running started/countersAfter started running/
-timerOut private_carried/Carried /^timerOut (Timer.Group t)/s/noTimer/tfp1/
-withMedia private_carried/Carried s/record { parties = stored .parties; commencement = stored .commencement; media = media;/record { parties = stored .parties; commencement = stored .commencement; media = stored .media;/
-carryOut private_carried/Carried s/(requestOf s (i .event)) (i .media)/(requestOf s (i .event)) (p .call .media)/
+stoppedOf private_call/Carried /^stoppedOf /s/isStopped/runsAfter/
+runningAfter private_call/Carried /^runningAfter /s/runsAfter/isStopped/
+timerFacts private_call/Carried s/«stop_asked» = has (x .«stop_asked») t/«stop_asked» = has (x .«ran_out») t/
+startedOf private_call/Carried s/tfp5 = start .tfp5;/tfp5 = start .tfp4;/
+startedOf private_call/Carried s/^startedOf state to start/startedOf to state start/
+startedBy private_call/Carried /^startedBy /s/(x .to)/state/
+countersAfter private_call/Carried s/^countersAfter running started/countersAfter started running/
+timerOut private_call/Carried /^timerOut (Timer.Group t)/s/noTimer/tfp1/
+withMedia private_call/Carried s/record { parties = stored .parties; commencement = stored .commencement; media = media;/record { parties = stored .parties; commencement = stored .commencement; media = stored .media;/
+carryOut private_call/Carried s/(requestOf s (i .event)) (i .media)/(requestOf s (i .event)) (p .call .media)/
 messageCause private_rows/Causes /^messageCause own (Ringing p)/s/RingingHeard/AcceptHeard/
 privateActionCause private_rows/Causes /^privateActionCause PrivateAction.End /s/UserEnds/UserRejects/
 actionCause private_rows/Causes /^actionCause (Action.Group a)/s/Other/UserStarts/
@@ -164,10 +163,10 @@ noCall private_record/Formed /^noCall /s/commencement = 0/commencement = 1/
 firstMet call/Meeting /^firstMet none (row/s/(row .1) (row .0) (firstMet none rows)/(row .1) (firstMet none rows) (row .0)/
 restricted call/Settings /^restricted /s/restrict$/acknowledgement/
 privateRequest call/Request s/commencement = commencement; «call_type» = privateType/commencement = 0; «call_type» = privateType/
-stoppedOf group_carried/Carried /^stoppedOf /s/isStopped/runsAfter/
-runningAfter group_carried/Carried /^runningAfter /s/runsAfter/isStopped/
-timerFacts group_carried/Carried s/started = has (x .started) t/started = has (x .«stop_asked») t/
-carryOut group_carried/Carried s/(announcedOf s (i .event) .confirm) 1/(announcedOf s (i .event) .confirm) 0/
+stoppedOf group_call/Carried /^stoppedOf /s/isStopped/runsAfter/
+runningAfter group_call/Carried /^runningAfter /s/runsAfter/isStopped/
+timerFacts group_call/Carried s/started = has (x .started) t/started = has (x .«stop_asked») t/
+carryOut group_call/Carried s/(announcedOf s (i .event) .confirm) 1/(announcedOf s (i .event) .confirm) 0/
 messageCause group_rows/Causes /^messageCause own (GroupAccept a)/s/Other/AnnouncementHeard/
 groupActionCause group_rows/Causes /^groupActionCause GroupAction.Leave /s/UserLeaves/UserRejects/
 actionCause group_rows/Causes /^actionCause (Action.Private a)/s/Other/UserStarts/
@@ -176,7 +175,7 @@ timerCause group_rows/Causes /^timerCause (Timer.Private t)/s/Other/Tfg2Expires/
 causeOf group_rows/Causes /^causeOf s (Event.Message m)/s/own_group/own_user/
 rowIn group_rows/Rows /^rowIn /s/firstMet Discard/firstMet G1/
 rowOf group_rows/Rows /^rowOf /s/(announcedOf s e .call)/(g .call)/
-groupActionAnnounced announced/Announced /^groupActionAnnounced s (GroupAction.Start x)/s/confirm = x .confirm/confirm = 0/
+groupActionAnnounced call/Announced /^groupActionAnnounced s (GroupAction.Start x)/s/confirm = x .confirm/confirm = 0/
 CHANGES
 
 # ---- how it is called

@@ -1,4 +1,5 @@
 pub mod Settings
 pub mod Request
+pub mod Announced
 pub mod Timing
 pub mod Meeting

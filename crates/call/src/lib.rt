@@ -1,11 +1,14 @@
 // What the private and the group machine share: settings, timers and what becomes of them, actions, events, what is
-// sent; and the setup request that an event brings.
+// sent; and the setup request or the announcement that an event brings.
+mod announcements;
 mod requests;
 pub mod timers;
 
 ghost use mathlib.Core.Path.{_≡_};
+ghost use Rattle.call.specs.Announced.{announcedOf};
 ghost use Rattle.call.specs.Request.{privateRequest, requestOf};
 ghost use Rattle.call.specs.Settings.{restricted as restrictedBy};
+use frame::GroupCall;
 use frame::Media;
 use frame::Message;
 use frame::Parties;
@@ -186,5 +189,31 @@ pub fn request_of(settings: Settings, event: Event) -> Request
         Event::Action(action) => requests::action_request(settings, action),
         Event::Expiry(_) => Request::NONE,
         Event::Message(message) => requests::message_request(message),
+    }
+}
+
+// An announcement: a group call, all but its media, and whether it asks the others to confirm.
+pub struct Announced {
+    pub call: GroupCall,
+    pub confirm: u8,
+}
+
+impl Announced {
+    // What an event without an announcement has in its place.
+    pub const NONE: Announced = Announced {
+        call: GroupCall::NONE,
+        confirm: 0,
+    };
+}
+
+// The announcement that an event brings: the one received, or the one that the user's start makes; a raise brings its
+// type, its time and own as the changer.
+pub fn announced_of(settings: Settings, event: Event) -> Announced
+    ensures { λ r. ⌜ r ≡ announcedOf settings event ⌝ }
+{
+    match event {
+        Event::Action(action) => announcements::action_announced(settings, action),
+        Event::Expiry(_) => Announced::NONE,
+        Event::Message(message) => announcements::message_announced(message),
     }
 }

@@ -17,19 +17,19 @@ use Rattle.call.specs.Meeting.{firstMet}
 use Rattle.call.specs.declared.Settings.{Settings}
 use Rattle.call.specs.declared.Input.{Input}
 use Rattle.call.specs.declared.Send.{Send}
-use Rattle.step_numbers.specs.Numbers.{heardGood, argumentsGood}
+use Rattle.stepping.specs.Numbers.{heardGood, argumentsGood}
 use Rattle.stepping.specs.Sending.{lineSent}
 use Rattle.private_record.specs.declared.states.Phase.{Phase}
-use Rattle.private_record.specs.declared.rows.Row.the-variants as PrivateRow
 use Rattle.private_rows.specs.Rows as Rows
+use Rattle.private_rows.specs.declared.Row.the-variants as PrivateRow
 use Rattle.private_rows.specs.declared.causes.Cause.{Cause}
 use Rattle.private_rows.specs.declared.causes.Facts.{Facts}
+use Rattle.private_call.proofs.Steps as private
 use Rattle.group_record.specs.declared.states.State.{State}
-use Rattle.group_record.specs.declared.rows.Row.the-variants as GroupRow
 use Rattle.group_rows.specs.Rows as GroupRows
+use Rattle.group_rows.specs.declared.Row.the-variants as GroupRow
 use Rattle.group_rows.specs.declared.causes.Cause as GroupCause
 use Rattle.group_rows.specs.declared.causes.Facts as GroupFacts
-use Rattle.private_call.proofs.Steps as private
 use Rattle.group_call.proofs.Steps as group
 use Rattle.demands.specs.Machines.{Answer, Machine, lineToSend, Unrefused, CarriesOut, RowsHold, KeepsWellFormed, privateMachine, groupMachine}
 use Rattle.demands.specs.ExactlyWhen.{ExactlyWhen, SettingOut, Unformed, FieldOut, ArgumentOut, StepRoomless, StepExactlyWhen}

@@ -26,12 +26,12 @@ use Rattle.call.specs.Request.{requestOf}
 use Rattle.call.specs.declared.Settings.{Settings}
 use Rattle.call.specs.declared.Input.{Input}
 use Rattle.call.specs.declared.Send.{Send}
-use Rattle.step_numbers.specs.Numbers.{heardGood, argumentsGood}
+use Rattle.stepping.specs.Numbers.{heardGood, argumentsGood}
 use Rattle.stepping.specs.Sending.{sendTold}
 use Rattle.private_record.specs.declared.states.PrivateRecord.{PrivateRecord}
-use Rattle.private_record.specs.declared.rows.Row.the-variants.{R1}
 use Rattle.private_rows.specs.Causes.{sameIdentifier}
 use Rattle.private_rows.specs.Rows.{rowNumber, rowOf}
+use Rattle.private_rows.specs.declared.Row.the-variants.{R1}
 use Rattle.private_rows.proofs.Meets.{same-row}
 use Rattle.private_call.specs.Step.{identifierTaken}
 use Rattle.private_call.proofs.Steps.{number-told}

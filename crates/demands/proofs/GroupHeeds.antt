@@ -9,23 +9,23 @@ use Rattle.frame.specs.Range.{neverZero}
 use Rattle.frame.specs.Frame.{groupCallGood, inRange}
 use Rattle.frame.proofs.Laws.{and-split}
 use Rattle.call.specs.Settings.{settingsGood}
+use Rattle.call.specs.Announced.{announcedOf}
 use Rattle.call.specs.declared.Settings.{Settings}
 use Rattle.call.specs.declared.GroupAction.{GroupAction}
 use Rattle.call.specs.declared.Input.{Input}
-use Rattle.announced.specs.Announced.{announcedOf}
-use Rattle.step_numbers.specs.Numbers.{argumentsGood}
+use Rattle.stepping.specs.Numbers.{argumentsGood}
 use Rattle.stepping.proofs.Stepping.{Taken}
 use Rattle.group_record.specs.Formed.{wellFormed}
 use Rattle.group_record.specs.declared.states.State.{State}
 use Rattle.group_record.specs.declared.states.GroupRecord.{GroupRecord}
-use Rattle.group_record.specs.declared.rows.Row.{Row}
-use Rattle.group_record.specs.declared.rows.Row.the-variants.{G1, G7, G8}
 use Rattle.group_rows.specs.Causes.{causeOf, factsOf}
 use Rattle.group_rows.specs.Rows.{rowNumber, rowIn, rowOf}
 use Rattle.group_rows.specs.Found.{atOf, foundAt}
+use Rattle.group_rows.specs.declared.Row.{Row}
+use Rattle.group_rows.specs.declared.Row.the-variants.{G1, G7, G8}
 use Rattle.group_rows.proofs.Meets.{found-is-met}
-use Rattle.group_effects.specs.Effects.{effectOf}
-use Rattle.group_carried.specs.Carried.{changes, carryOut}
+use Rattle.group_call.specs.Effects.{effectOf}
+use Rattle.group_call.specs.Carried.{changes, carryOut}
 use Rattle.group_call.specs.Step.{changeTooEarly}
 use Rattle.group_call.specs.declared.Stepped.{Stepped}
 use Rattle.group_call.proofs.Steps.{answer-of-row, answer-told}

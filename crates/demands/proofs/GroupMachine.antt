@@ -4,16 +4,16 @@ use mathlib.Core.Path.{_≡_, sym, ap, _∙_, subst}
 use mathlib.Core.Bool.{not}
 use lib.Dec.{ltb, eqb}
 use borrow.Author.Tests.{eq-eqb, ltb-false, le-ltb, not-true}
+use Rattle.call.specs.Announced.{announcedOf}
 use Rattle.call.specs.declared.Settings.{Settings}
 use Rattle.call.specs.declared.Input.{Input}
 use Rattle.call.specs.declared.Send.{Send}
-use Rattle.announced.specs.Announced.{announcedOf}
 use Rattle.stepping.proofs.Stepping.{SentGood}
 use Rattle.group_record.specs.declared.states.GroupRecord.{GroupRecord}
-use Rattle.group_record.specs.declared.rows.Row.the-variants.{G9}
 use Rattle.group_rows.specs.Rows.{rowNumber, rowOf}
+use Rattle.group_rows.specs.declared.Row.the-variants.{G9}
 use Rattle.group_rows.proofs.Meets.{same-row}
-use Rattle.group_carried.specs.Carried.{isLater}
+use Rattle.group_call.specs.Carried.{isLater}
 use Rattle.group_call.specs.Step.{changeTooEarly, doneOf, stepNumber}
 use Rattle.group_call.specs.declared.Stepped.{Stepped}
 use Rattle.group_call.proofs.Keeping.{carried-sends-good}

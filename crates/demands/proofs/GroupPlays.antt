@@ -7,7 +7,7 @@ use Rattle.writer.specs.Writing.{writeNumber}
 use Rattle.call.specs.Settings.{settingsGood}
 use Rattle.group_record.specs.Formed.{wellFormed}
 use Rattle.group_rows.specs.Rows.{rowIn}
-use Rattle.group_carried.specs.Carried.{stoppedOf, runningAfter, carryOut}
+use Rattle.group_call.specs.Carried.{stoppedOf, runningAfter, carryOut}
 use Rattle.group_call.specs.Step.{stepOf, stepBuffer}
 use Rattle.demands.specs.Machines.{groupMachine}
 use Rattle.demands.specs.Played.{crew}

@@ -27,7 +27,7 @@ use Rattle.group_record.specs.Formed.{wellFormed}
 use Rattle.group_record.specs.declared.states.GroupRecord.{GroupRecord}
 use Rattle.group_rows.specs.Causes.{messageCause, sameIdentifier}
 use Rattle.group_rows.specs.declared.causes.Cause.{Cause}
-use Rattle.group_carried.specs.Carried.{changedBy, laterChange}
+use Rattle.group_call.specs.Carried.{changedBy, laterChange}
 use Rattle.group_call.specs.Hearing.{ongoing, inputOf, hears, HeardLine, promised, answerTo, answerHearing}
 use Rattle.group_call.specs.declared.Stepped.{Stepped}
 use Rattle.group_call.proofs.Steps.{keeps-well-formed}

@@ -25,21 +25,21 @@ use Rattle.private_record.specs.declared.states.Phase.{Phase}
 use Rattle.private_record.specs.declared.states.Timers.{Timers}
 use Rattle.private_record.proofs.WellFormed.{fit}
 use Rattle.private_rows.specs.Rows.{rowIn}
-use Rattle.private_carried.specs.Carried.{startedOf, stoppedOf, runningAfter, countersAfter, carryOut}
+use Rattle.private_call.specs.Carried.{startedOf, stoppedOf, runningAfter, countersAfter, carryOut}
 use Rattle.private_call.specs.Step.{stepOf}
 use Rattle.private_call.specs.declared.Stepped.{Stepped}
 use Rattle.private_call.proofs.MarkedSteps.{expiry-discarded, second-accept, last-expiry}
 use Rattle.group_order.specs.Order.{rankOf}
 use Rattle.group_order.proofs.Order.{asymmetric, by-rank, by-identifier}
-use Rattle.chooser.specs.Choice.{choiceOf, choiceNumber}
 use Rattle.group_record.specs.Formed as GroupFormed
 use Rattle.group_record.specs.declared.states.GroupRecord.{GroupRecord}
 use Rattle.group_rows.specs.Rows as GroupRows
-use Rattle.group_carried.specs.Carried as GroupCarried
+use Rattle.group_call.specs.Carried as GroupCarried
 use Rattle.group_call.specs.Step as GroupStep
 use Rattle.group_call.specs.Hearing.{hears}
 use Rattle.group_call.specs.declared.Stepped as GroupStepped
 use Rattle.group_call.proofs.Merging.{ongoing-is, better-joined}
+use Rattle.chooser.specs.Choice.{choiceOf, choiceNumber}
 use Rattle.demands.specs.Machines.{privateAnswer, privateMachine, groupMachine}
 use Rattle.demands.specs.MarkedCases.{spoilt, writes, expiryDiscarded, Holds, reading-holds, spoilt-holds, writing-holds, ringing, setup, table, AllHold}
 use Rattle.demands.specs.Played.{crewWith, crew, ours, theirs, cfp1At, stored, does, expires}

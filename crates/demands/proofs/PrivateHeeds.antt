@@ -15,22 +15,22 @@ use Rattle.call.specs.declared.Settings.{Settings}
 use Rattle.call.specs.declared.PrivateTimer.{PrivateTimer}
 use Rattle.call.specs.declared.PrivateAction.{PrivateAction}
 use Rattle.call.specs.declared.Input.{Input}
-use Rattle.step_numbers.specs.Numbers.{heardGood, argumentsGood}
+use Rattle.stepping.specs.Numbers.{heardGood, argumentsGood}
 use Rattle.stepping.proofs.Stepping.{Taken}
 use Rattle.private_record.specs.Phases.{stateOf, phaseOf}
 use Rattle.private_record.specs.Formed.{wellFormed}
 use Rattle.private_record.specs.declared.states.State.{State}
 use Rattle.private_record.specs.declared.states.Phase.{Phase}
 use Rattle.private_record.specs.declared.states.PrivateRecord.{PrivateRecord}
-use Rattle.private_record.specs.declared.rows.Row.{Row}
-use Rattle.private_record.specs.declared.rows.Row.the-variants.{R1, R8, R9, R13, R25, R28}
 use Rattle.private_record.proofs.WellFormed.{fit}
 use Rattle.private_rows.specs.Causes.{causeOf, factsOf}
 use Rattle.private_rows.specs.Rows.{rowNumber, rowIn, rowOf}
 use Rattle.private_rows.specs.Found.{atOf, foundAt}
+use Rattle.private_rows.specs.declared.Row.{Row}
+use Rattle.private_rows.specs.declared.Row.the-variants.{R1, R8, R9, R13, R25, R28}
 use Rattle.private_rows.proofs.Meets.{found-is-met}
-use Rattle.private_effects.specs.Effects.{effectOf}
-use Rattle.private_carried.specs.Carried.{changes, carryOut}
+use Rattle.private_call.specs.Effects.{effectOf}
+use Rattle.private_call.specs.Carried.{changes, carryOut}
 use Rattle.private_call.specs.Step.{identifierTaken}
 use Rattle.private_call.specs.declared.Stepped.{Stepped}
 use Rattle.private_call.proofs.Steps.{answer-of-row, answer-told}

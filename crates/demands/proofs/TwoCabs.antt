@@ -23,7 +23,7 @@ use Rattle.group_record.specs.Formed.{wellFormed}
 use Rattle.group_record.specs.declared.states.State.{State}
 use Rattle.group_record.specs.declared.states.GroupRecord.{GroupRecord}
 use Rattle.group_rows.specs.Rows.{rowIn}
-use Rattle.group_carried.specs.Carried.{stoppedOf, runningAfter, carryOut}
+use Rattle.group_call.specs.Carried.{stoppedOf, runningAfter, carryOut}
 use Rattle.group_call.specs.Step.{stepOf, stepBuffer}
 use Rattle.group_call.specs.Hearing.{HeardLine, Build, promised, answerTo, hear, hearAll}
 use Rattle.demands.specs.MarkedCases.{ringing}

@@ -21,7 +21,7 @@ use Rattle.group_record.specs.Formed.{clearedRecord, wellFormed}
 use Rattle.group_record.specs.declared.states.State.{State}
 use Rattle.group_record.specs.declared.states.GroupRecord.{GroupRecord}
 use Rattle.group_rows.specs.Rows.{rowIn}
-use Rattle.group_carried.specs.Carried.{stoppedOf, runningAfter, carryOut}
+use Rattle.group_call.specs.Carried.{stoppedOf, runningAfter, carryOut}
 use Rattle.group_call.specs.Step.{stepOf, stepBuffer}
 use Rattle.demands.specs.Machines.{Answer, Machine, privateMachine, groupMachine}
 use Rattle.demands.specs.Played.{crew, six, ours, theirs, cfp3At, stored, hears, does, expires}

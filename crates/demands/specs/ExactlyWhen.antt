@@ -15,7 +15,7 @@ use Rattle.call.specs.Settings.{settingsGood}
 use Rattle.call.specs.declared.Settings.{Settings}
 use Rattle.call.specs.declared.Input.{Input}
 use Rattle.call.specs.declared.Send.{Send}
-use Rattle.step_numbers.specs.Numbers.{heardGood, argumentsGood}
+use Rattle.stepping.specs.Numbers.{heardGood, argumentsGood}
 use Rattle.chooser.specs.NoChoice.{NoChoice}
 use Rattle.demands.specs.Totals.{totals}
 use Rattle.demands.specs.Machines.{Machine, lineToSend}

@@ -12,31 +12,31 @@ use Rattle.reader.specs.Line.{reading, readLine}
 use Rattle.writer.specs.Lent.{atFront}
 use Rattle.call.specs.Settings.{settingsGood}
 use Rattle.call.specs.Request.{requestOf}
+use Rattle.call.specs.Announced.{announcedOf}
 use Rattle.call.specs.declared.Settings.{Settings}
 use Rattle.call.specs.declared.PrivateTimer.{PrivateTimer}
 use Rattle.call.specs.declared.GroupTimer.{GroupTimer}
 use Rattle.call.specs.declared.Event.{Event}
 use Rattle.call.specs.declared.Input.{Input}
 use Rattle.call.specs.declared.Send.{Send}
-use Rattle.announced.specs.Announced.{announcedOf}
-use Rattle.step_numbers.specs.Numbers.{heardGood, argumentsGood}
+use Rattle.stepping.specs.Numbers.{heardGood, argumentsGood}
 use Rattle.stepping.specs.Sending.{lineSent}
 use Rattle.private_record.specs.Phases as Phases
 use Rattle.private_record.specs.Formed as Formed
 use Rattle.private_record.specs.declared.states.Timers as PrivateTimers
 use Rattle.private_record.specs.declared.states.PrivateRecord.{PrivateRecord}
-use Rattle.private_record.specs.declared.rows.Row.the-variants.{R1}
 use Rattle.private_rows.specs.Rows.{rowOf}
-use Rattle.private_carried.specs.Carried as Carried
+use Rattle.private_rows.specs.declared.Row.the-variants.{R1}
+use Rattle.private_call.specs.Carried as Carried
 use Rattle.private_call.specs.Step.{doneOf, answerMet, stepOf, stepBuffer}
 use Rattle.private_call.specs.declared.Stepped.{Stepped}
 use Rattle.group_record.specs.States as GroupStates
 use Rattle.group_record.specs.Formed as GroupFormed
 use Rattle.group_record.specs.declared.states.Timers as GroupTimers
 use Rattle.group_record.specs.declared.states.GroupRecord.{GroupRecord}
-use Rattle.group_record.specs.declared.rows.Row.the-variants.{G9}
 use Rattle.group_rows.specs.Rows as GroupRows
-use Rattle.group_carried.specs.Carried as GroupCarried
+use Rattle.group_rows.specs.declared.Row.the-variants.{G9}
+use Rattle.group_call.specs.Carried as GroupCarried
 use Rattle.group_call.specs.Step as GroupStep
 use Rattle.group_call.specs.declared.Stepped as GroupStepped
 

@@ -1,5 +1,5 @@
 // Messages of the cab terminal: the nine kinds, the media beside them, and the range of every field.
-pub mod carried;
+mod carried;
 pub mod range;
 
 // What stands beside a message whose kind carries media: today a number.

@@ -12,20 +12,20 @@ use Rattle.frame.specs.declared.GroupCall.{GroupCall}
 use Rattle.frame.specs.declared.Message.the-variants.{SetupRequest, Ringing, Accept, Reject, Release, ReleaseAck, AcceptAck, Announcement, GroupAccept}
 use Rattle.frame.proofs.Laws.{and-split}
 use Rattle.call.specs.Settings.{settingsGood}
+use Rattle.call.specs.Announced.{announcedOf}
 use Rattle.call.specs.declared.Settings.{Settings}
 use Rattle.call.specs.declared.GroupTimer.{GroupTimer}
 use Rattle.call.specs.declared.Timer.{Timer}
 use Rattle.call.specs.declared.GroupAction.{GroupAction}
 use Rattle.call.specs.declared.Action.{Action}
 use Rattle.call.specs.declared.Event.{Event}
-use Rattle.announced.specs.Announced.{announcedOf}
-use Rattle.announced.specs.declared.Announced.{Announced}
-use Rattle.step_numbers.specs.Numbers.{heardGood, argumentsGood}
+use Rattle.call.specs.declared.Announced.{Announced}
+use Rattle.stepping.specs.Numbers.{heardGood, argumentsGood}
 use Rattle.group_record.specs.States.{noTimer, tfg2, tfg4, tfg6}
 use Rattle.group_record.specs.declared.states.Timers.{Timers}
 use Rattle.group_rows.specs.Causes.{announcementCause, causeOf, sameCause}
 use Rattle.group_rows.specs.declared.causes.Cause.{Cause}
-use Rattle.group_carried.specs.Carried.{ranOut}
+use Rattle.group_call.specs.Carried.{ranOut}
 use Rattle.group_call.proofs.Holding.{ranged}
 
 -- ---- the timer that ran out

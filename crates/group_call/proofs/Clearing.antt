@@ -15,11 +15,11 @@ use Rattle.group_record.specs.States.{runningOf}
 use Rattle.group_record.specs.Formed.{clearedRecord, wellFormed}
 use Rattle.group_record.specs.declared.states.State.{State}
 use Rattle.group_record.specs.declared.states.GroupRecord.{GroupRecord}
-use Rattle.group_record.specs.declared.rows.Row.{Row}
-use Rattle.group_record.specs.declared.rows.Row.the-variants.{G7, G8}
 use Rattle.group_rows.specs.Rows.{rowNumber, rowOf}
+use Rattle.group_rows.specs.declared.Row.{Row}
+use Rattle.group_rows.specs.declared.Row.the-variants.{G7, G8}
 use Rattle.group_rows.proofs.Meets.{same-row}
-use Rattle.group_carried.specs.Carried.{carryOut}
+use Rattle.group_call.specs.Carried.{carryOut}
 use Rattle.group_call.specs.Step.{doneOf, stepNumber, stepOf}
 use Rattle.group_call.proofs.Keeping.{fit, carried-well-formed}
 use Rattle.group_call.proofs.Steps.{tests-passed, step-passed, step-done, step-refused}

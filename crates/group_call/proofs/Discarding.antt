@@ -3,23 +3,23 @@ use mathlib.Core.Path.{_≡_, refl, ap, _∙_, subst}
 use mathlib.Core.Bool.{Bool, false, not}
 use lib.Dec.{eqb}
 use borrow.Author.Tests.{eq-eqb}
+use Rattle.call.specs.Announced.{announcedOf}
 use Rattle.call.specs.declared.Settings.{Settings}
 use Rattle.call.specs.declared.GroupTimer.{GroupTimer}
 use Rattle.call.specs.declared.Input.{Input}
 use Rattle.call.specs.declared.Send.{Send}
 use Rattle.call.proofs.Timing.{stops-none, runs-on-one}
-use Rattle.announced.specs.Announced.{announcedOf}
 use Rattle.group_record.specs.States.{stateNumber, noTimer, runningOf}
 use Rattle.group_record.specs.declared.states.State.{State}
 use Rattle.group_record.specs.declared.states.Timers.{Timers}
 use Rattle.group_record.specs.declared.states.GroupRecord.{GroupRecord}
-use Rattle.group_record.specs.declared.rows.Row.the-variants.{Discard}
 use Rattle.group_rows.specs.Causes.{causeOf, factsOf}
 use Rattle.group_rows.specs.Rows.{rowOf}
+use Rattle.group_rows.specs.declared.Row.the-variants.{Discard}
 use Rattle.group_rows.specs.declared.causes.Cause.{Cause}
-use Rattle.group_effects.specs.Effects.{effectOf}
-use Rattle.group_carried.specs.Carried.{ranOut, changes, stoppedOf, runningAfter, timerFacts, timersBy, stoppedBy, runningBy, carryOut}
-use Rattle.group_carried.specs.declared.Carried.{Carried}
+use Rattle.group_call.specs.Effects.{effectOf}
+use Rattle.group_call.specs.Carried.{ranOut, changes, stoppedOf, runningAfter, timerFacts, timersBy, stoppedBy, runningBy, carryOut}
+use Rattle.group_call.specs.declared.carrying.Carried.{Carried}
 use Rattle.group_call.proofs.Brought.{outOf, ran-out-of}
 use Rattle.group_call.proofs.Settling.{less, Sound, rows-sound}
 use Rattle.group_call.proofs.Keeping.{same-timers, Fit}

@@ -5,19 +5,19 @@ use mathlib.Core.List.{List}
 use mathlib.Core.Bool.{true, false, not, _&&_, _||_}
 use lib.Dec.{eqb}
 use Rattle.call.specs.Timing.{isStopped, runsAfter}
+use Rattle.call.specs.Announced.{announcedOf}
 use Rattle.call.specs.declared.Settings.{Settings}
 use Rattle.call.specs.declared.GroupTimer.{GroupTimer}
 use Rattle.call.specs.declared.Input.{Input}
 use Rattle.call.proofs.Timing.{change-stops-one, spares-one}
-use Rattle.announced.specs.Announced.{announcedOf}
 use Rattle.group_record.specs.States.{has}
 use Rattle.group_record.specs.declared.states.GroupRecord.{GroupRecord}
 use Rattle.group_rows.specs.Rows.{rowOf}
-use Rattle.group_effects.specs.Effects.{effectOf}
-use Rattle.group_effects.specs.declared.Effect.{Effect}
-use Rattle.group_carried.specs.Carried.{ranOut, changes, stoppedOf, runningAfter, timerFacts, timersBy, carryOut}
-use Rattle.group_carried.specs.declared.timers.TimerSets.{TimerSets}
+use Rattle.group_call.specs.Effects.{effectOf}
+use Rattle.group_call.specs.Carried.{ranOut, changes, stoppedOf, runningAfter, timerFacts, timersBy, carryOut}
 use Rattle.group_call.specs.Step.{doneOf, stepNumber, stepOf}
+use Rattle.group_call.specs.declared.effects.Effect.{Effect}
+use Rattle.group_call.specs.declared.timers.TimerSets.{TimerSets}
 use Rattle.group_call.specs.declared.Stepped.{Stepped}
 use Rattle.group_call.proofs.Keeping.{has-set}
 use Rattle.group_call.proofs.Steps.{step-done}

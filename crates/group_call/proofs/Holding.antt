@@ -12,7 +12,7 @@ use Rattle.frame.specs.declared.Message.the-variants.{Announcement, GroupAccept
 use Rattle.frame.proofs.Laws.{and-split}
 use Rattle.call.specs.declared.Settings.{Settings}
 use Rattle.call.proofs.Laws.{both}
-use Rattle.group_carried.specs.Carried.{changedBy, acceptance}
+use Rattle.group_call.specs.Carried.{changedBy, acceptance}
 
 -- what a call in range consists of
 pub record Ranged (c : GroupCall) (confirm : ℕ) (media : Media) : Type 0 where

@@ -10,27 +10,27 @@ use Rattle.frame.specs.declared.Media.{Media}
 use Rattle.frame.specs.declared.GroupCall.{GroupCall}
 use Rattle.frame.specs.declared.Message.the-variants.{Announcement}
 use Rattle.frame.proofs.Laws.{and-split}
+use Rattle.call.specs.Announced.{announcedOf}
 use Rattle.call.specs.declared.Settings.{Settings}
 use Rattle.call.specs.declared.GroupTimer.{GroupTimer}
 use Rattle.call.specs.declared.Input.{Input}
+use Rattle.call.specs.declared.Announced.{Announced}
 use Rattle.call.proofs.Laws.{both, beq-same}
-use Rattle.announced.specs.Announced.{announcedOf}
-use Rattle.announced.specs.declared.Announced.{Announced}
 use Rattle.stepping.proofs.Stepping.{Taken, SentGood}
 use Rattle.group_record.specs.States.{has, setOf, sameTimers, runningOf}
 use Rattle.group_record.specs.Formed.{callNone, callHeld, callGood, wellFormed}
 use Rattle.group_record.specs.declared.states.State.{State}
 use Rattle.group_record.specs.declared.states.Timers.{Timers}
 use Rattle.group_record.specs.declared.states.GroupRecord.{GroupRecord}
-use Rattle.group_record.specs.declared.rows.Row.{Row}
 use Rattle.group_rows.specs.Causes.{causeOf, factsOf}
 use Rattle.group_rows.specs.Rows.{rowOf}
+use Rattle.group_rows.specs.declared.Row.{Row}
 use Rattle.group_rows.specs.declared.causes.Cause.{Cause}
-use Rattle.group_effects.specs.Effects.{effectOf}
-use Rattle.group_effects.specs.declared.Hold.{Hold}
-use Rattle.group_effects.specs.declared.Say.{Say}
-use Rattle.group_effects.specs.declared.Effect.{Effect}
-use Rattle.group_carried.specs.Carried.{isLater, ranOut, runningBy, changedBy, heldOf, mediaHeld, sentOf, carryOut}
+use Rattle.group_call.specs.Effects.{effectOf}
+use Rattle.group_call.specs.Carried.{isLater, ranOut, runningBy, changedBy, heldOf, mediaHeld, sentOf, carryOut}
+use Rattle.group_call.specs.declared.effects.Hold.{Hold}
+use Rattle.group_call.specs.declared.effects.Say.{Say}
+use Rattle.group_call.specs.declared.effects.Effect.{Effect}
 use Rattle.group_call.proofs.Holding.{ranged, announces, accepts, changes-good}
 use Rattle.group_call.proofs.Brought.{outOf, ran-out-of, bringsCall, bringsChange, New, Brings, brings, own-good}
 use Rattle.group_call.proofs.Settling.{startStop, mayHold, maySay, Sound, rows-sound}

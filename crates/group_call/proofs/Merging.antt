@@ -17,14 +17,14 @@ use Rattle.group_record.specs.States.{tfg2, tfg2And6, runningOf}
 use Rattle.group_record.specs.Formed.{wellFormed}
 use Rattle.group_record.specs.declared.states.State.{State}
 use Rattle.group_record.specs.declared.states.GroupRecord.{GroupRecord}
-use Rattle.group_record.specs.declared.rows.Row.{Row}
-use Rattle.group_record.specs.declared.rows.Row.the-variants.{Discard, G10, G11}
 use Rattle.group_rows.specs.Causes.{sameIdentifier, factsOf}
 use Rattle.group_rows.specs.Rows.{rowNumber, rowIn, rowOf}
+use Rattle.group_rows.specs.declared.Row.{Row}
+use Rattle.group_rows.specs.declared.Row.the-variants.{Discard, G10, G11}
 use Rattle.group_rows.specs.declared.causes.Cause.{Cause}
 use Rattle.group_rows.specs.declared.causes.Facts.{Facts}
 use Rattle.group_rows.proofs.Meets.{found-is-met}
-use Rattle.group_carried.specs.Carried.{isLater, stoppedOf, runningAfter, laterChange, carryOut}
+use Rattle.group_call.specs.Carried.{isLater, stoppedOf, runningAfter, laterChange, carryOut}
 use Rattle.group_call.specs.Step.{changeTooEarly, numberBeforeSending, discarded, stepOf, stepBuffer}
 use Rattle.group_call.specs.Hearing.{ongoing, hears}
 use Rattle.group_call.specs.declared.Stepped.{Stepped}

@@ -7,15 +7,15 @@ use Rattle.call.proofs.Laws.{bothBools, at-bool}
 use Rattle.group_record.specs.States.{stateNumber, has, setOf, sameTimers, runningOf}
 use Rattle.group_record.specs.declared.states.State.{State}
 use Rattle.group_record.specs.declared.states.Timers.{Timers}
-use Rattle.group_record.specs.declared.rows.Row.{Row}
 use Rattle.group_rows.specs.Rows.{rowNumber, rowIn}
+use Rattle.group_rows.specs.declared.Row.{Row}
 use Rattle.group_rows.specs.declared.causes.Cause.{Cause}
 use Rattle.group_rows.specs.declared.causes.Facts.{Facts}
 use Rattle.group_rows.proofs.Meets.{each-row}
-use Rattle.group_effects.specs.Effects.{effectOf}
-use Rattle.group_effects.specs.declared.Hold.{Hold}
-use Rattle.group_effects.specs.declared.Say.{Say}
-use Rattle.group_carried.specs.Carried.{stoppedOf, runningAfter, runningBy}
+use Rattle.group_call.specs.Effects.{effectOf}
+use Rattle.group_call.specs.Carried.{stoppedOf, runningAfter, runningBy}
+use Rattle.group_call.specs.declared.effects.Hold.{Hold}
+use Rattle.group_call.specs.declared.effects.Say.{Say}
 use Rattle.group_call.proofs.Brought.{outOf, bringsCall, bringsChange}
 
 -- S1

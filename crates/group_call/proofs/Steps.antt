@@ -12,20 +12,20 @@ use Rattle.writer.specs.Lent.{atFront, lentAfter}
 use Rattle.call.specs.Settings.{settingsGood}
 use Rattle.call.specs.declared.Settings.{Settings}
 use Rattle.call.specs.declared.Input.{Input}
-use Rattle.step_numbers.specs.Numbers.{numberBeforeRow}
-use Rattle.stepping.specs.Sending.{lineSent, sendNumber, numberSending}
+use Rattle.stepping.specs.Numbers.{numberBeforeRow, numberSending}
+use Rattle.stepping.specs.Sending.{lineSent, sendNumber}
 use Rattle.stepping.proofs.Stepping.{tests-parts, Taken, SentGood, number-passed, tableTests, number-of-table, number-of-tests}
 use Rattle.stepping.proofs.Stepping as stepping
 use Rattle.stepping.proofs.Answers.{by-cases, nothing-lent}
 use Rattle.group_record.specs.Formed.{clearedRecord, wellFormed}
 use Rattle.group_record.specs.declared.states.GroupRecord.{GroupRecord}
-use Rattle.group_record.specs.declared.rows.Row.{Row}
-use Rattle.group_record.specs.declared.rows.Row.the-variants.{Discard}
 use Rattle.group_rows.specs.Rows.{rowNumber, rowOf}
+use Rattle.group_rows.specs.declared.Row.{Row}
+use Rattle.group_rows.specs.declared.Row.the-variants.{Discard}
 use Rattle.group_rows.proofs.Meets.{same-row}
-use Rattle.group_carried.specs.Carried.{carryOut}
-use Rattle.group_carried.specs.declared.Carried.{Carried}
+use Rattle.group_call.specs.Carried.{carryOut}
 use Rattle.group_call.specs.Step.{changeTooEarly, numberBeforeSending, doneOf, lineWith, stepLine, stepNumber, refusedOf, movedOf, discarded, answerMet, bufferWith, stepOf, stepBuffer}
+use Rattle.group_call.specs.declared.carrying.Carried.{Carried}
 use Rattle.group_call.specs.declared.Stepped.{Stepped}
 use Rattle.group_call.proofs.Keeping.{fit, carried-well-formed, carried-sends-good}
 use Rattle.group_call.proofs.Discarding.{carried-nothing}

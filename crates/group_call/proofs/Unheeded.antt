@@ -7,27 +7,27 @@ use mathlib.Core.Bool.{true, false, not, _&&_, true≢false}
 use lib.Dec.{eqb}
 use Rattle.frame.specs.declared.Media.{Media}
 use Rattle.call.specs.Settings.{settingsGood}
+use Rattle.call.specs.Announced.{announcedOf}
 use Rattle.call.specs.declared.Settings.{Settings}
 use Rattle.call.specs.declared.Verdicts.{Verdicts}
 use Rattle.call.specs.declared.GroupTimer.{GroupTimer}
 use Rattle.call.specs.declared.Event.{Event}
 use Rattle.call.specs.declared.Input.{Input}
-use Rattle.announced.specs.Announced.{announcedOf}
 use Rattle.stepping.proofs.Stepping.{Taken, tests-pass}
 use Rattle.group_record.specs.States.{has}
 use Rattle.group_record.specs.Formed.{wellFormed}
 use Rattle.group_record.specs.declared.states.State.{State}
 use Rattle.group_record.specs.declared.states.Timers.{Timers}
 use Rattle.group_record.specs.declared.states.GroupRecord.{GroupRecord}
-use Rattle.group_record.specs.declared.rows.Row.{Row}
-use Rattle.group_record.specs.declared.rows.Row.the-variants.{Discard}
 use Rattle.group_rows.specs.Causes.{groupTimerCause, causeOf, factsOf}
 use Rattle.group_rows.specs.Asking.{runs}
 use Rattle.group_rows.specs.Rows.{rowNumber, rowIn, rowOf}
+use Rattle.group_rows.specs.declared.Row.{Row}
+use Rattle.group_rows.specs.declared.Row.the-variants.{Discard}
 use Rattle.group_rows.specs.declared.causes.Cause.{Cause}
 use Rattle.group_rows.specs.declared.causes.Facts.{Facts}
 use Rattle.group_rows.proofs.Meets.{found-is-met}
-use Rattle.group_carried.specs.Carried.{isLater, carryOut}
+use Rattle.group_call.specs.Carried.{isLater, carryOut}
 use Rattle.group_call.specs.Hearing.{inputOf, expiry}
 use Rattle.group_call.specs.Step.{changeTooEarly, discarded, stepOf, stepBuffer}
 use Rattle.group_call.proofs.Keeping.{fit}

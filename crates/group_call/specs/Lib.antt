@@ -1,2 +1,4 @@
+pub mod Effects
+pub mod Carried
 pub mod Step
 pub mod Hearing

@@ -1,19 +1,24 @@
-// The group call machine: one step.
+// The group call machine: what each row does, what holds for all rows, and one step.
+mod carrying;
+mod effects;
+mod timers;
+
 ghost use mathlib.Core.Path.{_≡_};
 ghost use Rattle.group_rows.specs.Rows.{rowNumber};
 ghost use Rattle.group_call.specs.Step.{changeTooEarly, refusedOf, movedOf, stepOf, stepBuffer};
-use announced::announced_of;
+use crate::carrying::Carried;
+use crate::carrying::carry_out;
+use crate::carrying::later;
 use call::Event;
 use call::Input;
 use call::Settings;
-use group_carried::Carried;
-use group_carried::carry_out;
-use group_record::rows::Row;
+use call::announced_of;
 use group_record::states::GroupRecord;
 use group_record::states::Timers;
 use group_record::well_formed;
+use group_rows::Row;
 use group_rows::row_of;
-use step_numbers::number_before_row;
+use stepping::number_before_row;
 use stepping::write_sent;
 use writer::Written;
 
@@ -88,7 +93,7 @@ fn change_too_early(settings: Settings, stored: GroupRecord, event: Event, row: 
     let held = stored.call;
     let announced = announced_of(settings, event);
     let brought = announced.call;
-    (row_number(row) == 9) & !(held.last_change < brought.last_change)
+    (row_number(row) == 9) & !later(brought, held)
 }
 
 // A step of the group call machine.

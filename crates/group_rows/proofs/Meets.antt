@@ -4,13 +4,13 @@ use mathlib.Core.List.{List, [], _∷_}
 use mathlib.Core.Bool.{Bool, true}
 use lib.ListN.{getD}
 use lib.Dec.{eqb}
-use Rattle.call.proofs.Laws.{by-number}
 use Rattle.call.specs.Meeting.{firstMet, oneMet}
+use Rattle.call.proofs.Laws.{by-number}
 use Rattle.group_record.specs.declared.states.State.{State}
-use Rattle.group_record.specs.declared.rows.Row.{Row}
-use Rattle.group_record.specs.declared.rows.Row.the-variants.{Discard, G1, G2, G3, G4, G5, G6, G7, G8, G9, G10, G11}
 use Rattle.group_rows.specs.Rows.{rowNumber, rowsAsk, rowIn}
 use Rattle.group_rows.specs.Found.{atOf, foundAt}
+use Rattle.group_rows.specs.declared.Row.{Row}
+use Rattle.group_rows.specs.declared.Row.the-variants.{Discard, G1, G2, G3, G4, G5, G6, G7, G8, G9, G10, G11}
 use Rattle.group_rows.specs.declared.causes.Cause.{Cause}
 use Rattle.group_rows.specs.declared.causes.Facts.{Facts}
 use Rattle.group_rows.proofs.Everywhere.{everywhere, anywhere}

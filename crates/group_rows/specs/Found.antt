@@ -4,8 +4,8 @@ use mathlib.Core.Bool.{Bool, cond, _&&_, _||_}
 use lib.Dec.{eqb}
 use Rattle.group_record.specs.States.{stateNumber}
 use Rattle.group_record.specs.declared.states.State.{State}
-use Rattle.group_record.specs.declared.rows.Row.{Row}
-use Rattle.group_record.specs.declared.rows.Row.the-variants.{Discard, G1, G2, G3, G4, G5, G6, G7, G8, G9, G10, G11}
+use Rattle.group_rows.specs.declared.Row.{Row}
+use Rattle.group_rows.specs.declared.Row.the-variants.{Discard, G1, G2, G3, G4, G5, G6, G7, G8, G9, G10, G11}
 use Rattle.group_rows.specs.declared.causes.Cause.{Cause}
 use Rattle.group_rows.specs.declared.causes.Facts.{Facts}
 use Rattle.group_rows.specs.declared.rows.At.{At}

@@ -3,16 +3,16 @@ use Prim.Native.Nat.{ℕ}
 use mathlib.Core.List.{List, [], _∷_}
 use mathlib.Core.Bool.{Bool, not, _&&_, _||_}
 use Rattle.call.specs.Meeting.{firstMet}
+use Rattle.call.specs.Announced.{announcedOf}
 use Rattle.call.specs.declared.Settings.{Settings}
 use Rattle.call.specs.declared.GroupTimer.{GroupTimer}
 use Rattle.call.specs.declared.Event.{Event}
-use Rattle.announced.specs.Announced.{announcedOf}
 use Rattle.group_record.specs.declared.states.State.{State}
 use Rattle.group_record.specs.declared.states.GroupRecord.{GroupRecord}
-use Rattle.group_record.specs.declared.rows.Row.{Row}
-use Rattle.group_record.specs.declared.rows.Row.the-variants.{Discard, G1, G2, G3, G4, G5, G6, G7, G8, G9, G10, G11}
 use Rattle.group_rows.specs.Causes.{sameCause, causeOf, factsOf}
 use Rattle.group_rows.specs.Asking.{inState, expires, announced}
+use Rattle.group_rows.specs.declared.Row.{Row}
+use Rattle.group_rows.specs.declared.Row.the-variants.{Discard, G1, G2, G3, G4, G5, G6, G7, G8, G9, G10, G11}
 use Rattle.group_rows.specs.declared.causes.Cause.{Cause}
 use Rattle.group_rows.specs.declared.causes.Facts.{Facts}
 

@@ -1,4 +1,4 @@
-// The row that an event meets from a group record.
+// The rows G1 to G11 by name, and which of them an event meets from a group record.
 mod causes;
 mod rows;
 
@@ -7,11 +7,26 @@ ghost use Rattle.group_rows.specs.Rows.{rowOf};
 use crate::causes::cause_of;
 use crate::causes::facts_of;
 use crate::rows::row_in;
-use announced::announced_of;
 use call::Event;
 use call::Settings;
-use group_record::rows::Row;
+use call::announced_of;
 use group_record::states::GroupRecord;
+
+// The rows by name, and Discard where none is met.
+pub enum Row {
+    Discard,
+    G1,
+    G2,
+    G3,
+    G4,
+    G5,
+    G6,
+    G7,
+    G8,
+    G9,
+    G10,
+    G11,
+}
 
 // The row that an event meets from a record.
 pub fn row_of(settings: Settings, stored: GroupRecord, event: Event) -> Row

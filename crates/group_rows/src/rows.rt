@@ -2,9 +2,9 @@
 ghost use mathlib.Core.Path.{_≡_};
 ghost use Rattle.group_rows.specs.Found.{atOf, met as metOf, announcedRow, foundAt};
 ghost use Rattle.group_rows.specs.Rows.{rowIn};
+use crate::Row;
 use crate::causes::Cause;
 use crate::causes::Facts;
-use group_record::rows::Row;
 use group_record::states::State;
 
 // Which state it is.

@@ -18,12 +18,12 @@ use Rattle.call.specs.declared.PrivateAction.{PrivateAction}
 use Rattle.call.specs.declared.Action.{Action}
 use Rattle.call.specs.declared.Event.{Event}
 use Rattle.call.specs.declared.Request.{Request}
-use Rattle.step_numbers.specs.Numbers.{heardGood, argumentsGood}
+use Rattle.stepping.specs.Numbers.{heardGood, argumentsGood}
 use Rattle.private_record.specs.Phases.{noTimer, tfp1, tfp2, tfp3, tfp4, tfp5, tfp7}
 use Rattle.private_record.specs.declared.states.Timers.{Timers}
 use Rattle.private_rows.specs.Causes.{setupCause, causeOf, sameCause}
 use Rattle.private_rows.specs.declared.causes.Cause.{Cause}
-use Rattle.private_carried.specs.Carried.{ranOut}
+use Rattle.private_call.specs.Carried.{ranOut}
 
 -- ---- the timer that ran out
 

@@ -17,15 +17,15 @@ use Rattle.private_record.specs.declared.states.State.{State}
 use Rattle.private_record.specs.declared.states.Timers.{Timers}
 use Rattle.private_record.specs.declared.states.Phase.{Phase}
 use Rattle.private_record.specs.declared.states.PrivateRecord.{PrivateRecord}
-use Rattle.private_record.specs.declared.rows.Row.{Row}
-use Rattle.private_record.specs.declared.rows.Row.the-variants.{R28}
 use Rattle.private_record.proofs.WellFormed.{fit}
 use Rattle.private_rows.specs.Causes.{factsOf}
 use Rattle.private_rows.specs.Rows.{rowNumber, rowIn}
+use Rattle.private_rows.specs.declared.Row.{Row}
+use Rattle.private_rows.specs.declared.Row.the-variants.{R28}
 use Rattle.private_rows.specs.declared.causes.Cause.{Cause}
 use Rattle.private_rows.specs.declared.causes.Facts.{Facts}
-use Rattle.private_effects.specs.Effects.{effectOf}
-use Rattle.private_carried.specs.Carried.{startedOf, stoppedOf, runningAfter, countersAfter, startedBy, stoppedBy, runningBy, carryOut}
+use Rattle.private_call.specs.Effects.{effectOf}
+use Rattle.private_call.specs.Carried.{startedOf, stoppedOf, runningAfter, countersAfter, startedBy, stoppedBy, runningBy, carryOut}
 use Rattle.private_call.specs.Step.{stepOf}
 use Rattle.private_call.specs.Running.{expiry}
 use Rattle.private_call.specs.declared.Stepped.{Stepped}

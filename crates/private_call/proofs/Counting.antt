@@ -11,9 +11,8 @@ use Rattle.call.specs.Settings.{limitGood, limitsGood}
 use Rattle.call.specs.declared.Counters.{Counters}
 use Rattle.call.proofs.Laws.{both}
 use Rattle.private_record.specs.Formed.{counterGood, countersGood}
-use Rattle.private_record.specs.declared.states.Timers.{Timers}
-use Rattle.private_carried.specs.Carried.{oneMore, counterAfter, countersAfter, stoppedOf, runningAfter}
-use Rattle.private_carried.specs.declared.timers.TimerSets.{TimerSets}
+use Rattle.private_call.specs.Carried.{oneMore, counterAfter, countersAfter, stoppedOf, runningAfter}
+use Rattle.private_call.specs.declared.timers.TimerSets.{TimerSets}
 
 -- between its ends
 inside : (low n high : ℕ) → low ≤ n → n ≤ high → within low n high ≡ true

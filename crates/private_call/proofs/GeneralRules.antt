@@ -11,16 +11,16 @@ use Rattle.call.specs.declared.Input.{Input}
 use Rattle.call.proofs.Timing.{change-stops-one, spares-one}
 use Rattle.private_record.specs.Phases.{stateNumber, has}
 use Rattle.private_record.specs.declared.states.PrivateRecord.{PrivateRecord}
-use Rattle.private_record.specs.declared.rows.Row.{Row}
 use Rattle.private_record.proofs.WellFormed.{has-set}
 use Rattle.private_rows.specs.Rows.{rowOf}
-use Rattle.private_effects.specs.Effects.{effectOf}
-use Rattle.private_effects.specs.declared.Effect.{Effect}
-use Rattle.private_carried.specs.Carried.{ranOut, changes, startedOf, stoppedOf, runningAfter, countersAfter, timerFacts, timersBy, carryOut}
-use Rattle.private_carried.specs.declared.timers.TimerSets.{TimerSets}
+use Rattle.private_rows.specs.declared.Row.{Row}
+use Rattle.private_call.specs.Effects.{effectOf}
+use Rattle.private_call.specs.Carried.{ranOut, changes, startedOf, stoppedOf, runningAfter, countersAfter, timerFacts, timersBy, carryOut}
 use Rattle.private_call.specs.Step.{stepNumber, stepOf}
-use Rattle.private_call.specs.declared.Stepped.{Stepped}
 use Rattle.private_call.specs.NoReply.{Counter, cfp1, cfp3, cfp4, countIn, timerOf}
+use Rattle.private_call.specs.declared.effects.Effect.{Effect}
+use Rattle.private_call.specs.declared.timers.TimerSets.{TimerSets}
+use Rattle.private_call.specs.declared.Stepped.{Stepped}
 use Rattle.private_call.proofs.Steps.{step-done}
 
 -- whether a timer is stopped

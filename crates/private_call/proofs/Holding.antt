@@ -20,8 +20,8 @@ use Rattle.private_record.specs.declared.states.State.{State}
 use Rattle.private_record.specs.declared.states.PrivateCall.{PrivateCall}
 use Rattle.private_rows.specs.Causes.{sameCause}
 use Rattle.private_rows.specs.declared.causes.Cause.{Cause}
-use Rattle.private_effects.specs.declared.Hold.{Hold}
-use Rattle.private_carried.specs.Carried.{callOf, withMedia, heldOf}
+use Rattle.private_call.specs.Carried.{callOf, withMedia, heldOf}
+use Rattle.private_call.specs.declared.effects.Hold.{Hold}
 use Rattle.private_call.proofs.Brought.{New, Brings, bringsCall, bringsMedia}
 use Rattle.private_call.proofs.Settling.{startStop, mayStay, mayHold}
 

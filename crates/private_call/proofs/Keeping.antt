@@ -22,17 +22,17 @@ use Rattle.private_record.specs.declared.states.Timers.{Timers}
 use Rattle.private_record.specs.declared.states.Phase.{Phase}
 use Rattle.private_record.specs.declared.states.PrivateCall.{PrivateCall}
 use Rattle.private_record.specs.declared.states.PrivateRecord.{PrivateRecord}
-use Rattle.private_record.specs.declared.rows.Row.{Row}
 use Rattle.private_record.proofs.WellFormed.{Fit, fit}
 use Rattle.private_rows.specs.Causes.{causeOf, factsOf}
 use Rattle.private_rows.specs.Rows.{rowOf}
+use Rattle.private_rows.specs.declared.Row.{Row}
 use Rattle.private_rows.specs.declared.causes.Cause.{Cause}
-use Rattle.private_effects.specs.Effects.{effectOf}
-use Rattle.private_effects.specs.declared.Hold.{Hold}
-use Rattle.private_effects.specs.declared.Reason.{Reason}
-use Rattle.private_effects.specs.declared.Say.{Say}
-use Rattle.private_effects.specs.declared.Effect.{Effect}
-use Rattle.private_carried.specs.Carried.{ranOut, timersBy, runningBy, callOf, heldOf, reasonNumber, reasonOr, sentOf, carryOut}
+use Rattle.private_call.specs.Effects.{effectOf}
+use Rattle.private_call.specs.Carried.{ranOut, timersBy, runningBy, callOf, heldOf, reasonNumber, reasonOr, sentOf, carryOut}
+use Rattle.private_call.specs.declared.effects.Hold.{Hold}
+use Rattle.private_call.specs.declared.effects.Reason.{Reason}
+use Rattle.private_call.specs.declared.effects.Say.{Say}
+use Rattle.private_call.specs.declared.effects.Effect.{Effect}
 use Rattle.private_call.proofs.Brought.{outOf, ran-out-of, Brings, brings, bringsCall}
 use Rattle.private_call.proofs.Settling.{mayHold, holdsOne, maySay, Sound, rows-sound}
 use Rattle.private_call.proofs.Counting.{counters-keep}

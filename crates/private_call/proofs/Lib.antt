@@ -11,5 +11,4 @@ pub mod MarkedSteps
 pub mod OneCounter
 pub mod NoReply
 pub mod GeneralRules
-pub mod RowsApart
 pub mod Clearing

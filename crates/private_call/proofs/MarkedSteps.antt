@@ -15,7 +15,8 @@ use Rattle.call.specs.declared.Settings.{Settings}
 use Rattle.call.specs.declared.Verdicts.{Verdicts}
 use Rattle.call.specs.declared.PrivateTimer.{PrivateTimer}
 use Rattle.call.specs.declared.Input.{Input}
-use Rattle.stepping.specs.Sending.{lineSent, sendNumber, numberSending}
+use Rattle.stepping.specs.Sending.{lineSent, sendNumber}
+use Rattle.stepping.specs.Numbers.{numberSending}
 use Rattle.stepping.proofs.Stepping.{Taken}
 use Rattle.private_record.specs.Phases.{has, noTimer, tfp2, tfp4, stateOf, runningOf, phaseIn, phaseOf}
 use Rattle.private_record.specs.Formed.{counterGood, wellFormed}
@@ -23,21 +24,21 @@ use Rattle.private_record.specs.declared.states.State.{State}
 use Rattle.private_record.specs.declared.states.Phase.{Phase}
 use Rattle.private_record.specs.declared.states.Timers.{Timers}
 use Rattle.private_record.specs.declared.states.PrivateRecord.{PrivateRecord}
-use Rattle.private_record.specs.declared.rows.Row.{Row}
-use Rattle.private_record.specs.declared.rows.Row.the-variants.{Discard, R3, R23}
 use Rattle.private_record.proofs.WellFormed.{Fit, fit}
 use Rattle.private_rows.specs.Causes.{causeOf, factsOf}
 use Rattle.private_rows.specs.Asking.{runs}
 use Rattle.private_rows.specs.Rows.{rowNumber, rowIn, rowOf}
+use Rattle.private_rows.specs.declared.Row.{Row}
+use Rattle.private_rows.specs.declared.Row.the-variants.{Discard, R3, R23}
 use Rattle.private_rows.specs.declared.causes.Cause.{Cause}
 use Rattle.private_rows.specs.declared.causes.Facts.{Facts}
 use Rattle.private_rows.proofs.Meets.{same-row, found-is-met, quiet-expiry}
-use Rattle.private_effects.specs.Effects.{effectOf}
-use Rattle.private_carried.specs.Carried.{startedOf, stoppedOf, runningAfter, runningBy, carryOut}
+use Rattle.private_call.specs.Effects.{effectOf}
+use Rattle.private_call.specs.Carried.{startedOf, stoppedOf, runningAfter, runningBy, carryOut}
 use Rattle.private_call.specs.Step.{numberBeforeSending, doneOf, stepLine, refusedOf, discarded, movedOf, answerMet, stepNumber, stepOf, stepBuffer}
-use Rattle.private_call.specs.declared.Stepped.{Stepped}
 use Rattle.private_call.specs.Running.{expiry, userAccepts}
 use Rattle.private_call.specs.NoReply.{Counter, cfp1, cfp3, cfp4, timerOf, phaseWhere}
+use Rattle.private_call.specs.declared.Stepped.{Stepped}
 use Rattle.private_call.proofs.Steps.{buffer-lent, tests-passed, step-passed, step-done, answer-told, keeps-well-formed, discards}
 
 -- ---- a step by its row

@@ -19,10 +19,10 @@ use Rattle.private_record.specs.declared.states.State.{State}
 use Rattle.private_record.specs.declared.states.Timers.{Timers}
 use Rattle.private_record.specs.declared.states.PrivateCall.{PrivateCall}
 use Rattle.private_record.specs.declared.states.PrivateRecord.{PrivateRecord}
-use Rattle.private_record.specs.declared.rows.Row.{Row}
 use Rattle.private_record.proofs.WellFormed.{fit}
 use Rattle.private_rows.specs.Rows.{rowNumber}
-use Rattle.private_carried.specs.Carried.{startedOf, runningAfter, countersAfter, carryOut}
+use Rattle.private_rows.specs.declared.Row.{Row}
+use Rattle.private_call.specs.Carried.{startedOf, runningAfter, countersAfter, carryOut}
 use Rattle.private_call.specs.Step.{stepLine, stepOf}
 use Rattle.private_call.specs.Running.{expiry, runPrivate, sentPrivate}
 use Rattle.private_call.specs.NoReply.{Counter, cfp1, cfp3, cfp4, countIn, timerOf, phaseWhere, lineRepeated, Begins, by-R1, by-R8, by-R9, by-R20, by-R23, expiries, Roomy, atMost}

@@ -24,14 +24,14 @@ use Rattle.private_record.specs.declared.states.State.{State}
 use Rattle.private_record.specs.declared.states.Timers.{Timers}
 use Rattle.private_record.specs.declared.states.Phase.{Phase}
 use Rattle.private_record.specs.declared.states.PrivateRecord.{PrivateRecord}
-use Rattle.private_record.specs.declared.rows.Row.{Row}
-use Rattle.private_record.specs.declared.rows.Row.the-variants.{R2, R3, R10, R11, R16, R17}
 use Rattle.private_record.proofs.WellFormed.{fit}
 use Rattle.private_rows.specs.Causes.{privateTimerCause, factsOf}
 use Rattle.private_rows.specs.Rows.{rowNumber, rowIn, rowOf}
+use Rattle.private_rows.specs.declared.Row.{Row}
+use Rattle.private_rows.specs.declared.Row.the-variants.{R2, R3, R10, R11, R16, R17}
 use Rattle.private_rows.specs.declared.causes.Facts.{Facts}
-use Rattle.private_effects.specs.Effects.{effectOf}
-use Rattle.private_carried.specs.Carried.{privateTimerOut, startedOf, stoppedOf, runningAfter, countersAfter, oneMore, startedBy, runningBy, carryOut}
+use Rattle.private_call.specs.Effects.{effectOf}
+use Rattle.private_call.specs.Carried.{privateTimerOut, startedOf, stoppedOf, runningAfter, countersAfter, oneMore, startedBy, runningBy, carryOut}
 use Rattle.private_call.specs.Step.{numberBeforeSending, stepOf, stepBuffer}
 use Rattle.private_call.specs.Running.{expiry, runPrivate, sentPrivate}
 use Rattle.private_call.specs.NoReply.{Counter, cfp1, cfp3, cfp4, countIn, timerOf, phaseWhere, repeated, lineRepeated, expiries}

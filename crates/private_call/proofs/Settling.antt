@@ -9,16 +9,16 @@ use Rattle.private_record.specs.Formed.{runningGood, roleGood}
 use Rattle.private_record.specs.declared.states.State.{State}
 use Rattle.private_record.specs.declared.states.Phase.{Phase}
 use Rattle.private_record.specs.declared.states.Timers.{Timers}
-use Rattle.private_record.specs.declared.rows.Row.{Row}
 use Rattle.private_rows.specs.Causes.{sameCause}
 use Rattle.private_rows.specs.Rows.{rowNumber, rowIn}
+use Rattle.private_rows.specs.declared.Row.{Row}
 use Rattle.private_rows.specs.declared.causes.Cause.{Cause}
 use Rattle.private_rows.specs.declared.causes.Facts.{Facts}
 use Rattle.private_rows.proofs.Meets.{each-row}
-use Rattle.private_effects.specs.Effects.{effectOf}
-use Rattle.private_effects.specs.declared.Hold.{Hold}
-use Rattle.private_effects.specs.declared.Say.{Say}
-use Rattle.private_carried.specs.Carried.{startedOf, stoppedOf, runningAfter, runningBy}
+use Rattle.private_call.specs.Effects.{effectOf}
+use Rattle.private_call.specs.Carried.{startedOf, stoppedOf, runningAfter, runningBy}
+use Rattle.private_call.specs.declared.effects.Hold.{Hold}
+use Rattle.private_call.specs.declared.effects.Say.{Say}
 use Rattle.private_call.proofs.Brought.{outOf, bringsCall, bringsMedia}
 
 -- ---- the timers

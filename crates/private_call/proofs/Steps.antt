@@ -10,24 +10,24 @@ use Rattle.writer.specs.Lent.{lentAfter}
 use Rattle.call.specs.Settings.{settingsGood}
 use Rattle.call.specs.declared.Settings.{Settings}
 use Rattle.call.specs.declared.Input.{Input}
-use Rattle.step_numbers.specs.Numbers.{numberBeforeRow}
-use Rattle.stepping.specs.Sending.{lineSent, sendNumber, numberSending}
+use Rattle.stepping.specs.Numbers.{numberBeforeRow, numberSending}
+use Rattle.stepping.specs.Sending.{lineSent, sendNumber}
 use Rattle.stepping.proofs.Stepping.{tests-parts, Taken, SentGood, number-passed}
 use Rattle.stepping.proofs.Stepping as stepping
 use Rattle.stepping.proofs.Answers.{by-cases, nothing-lent}
 use Rattle.private_record.specs.Formed.{wellFormed}
 use Rattle.private_record.specs.declared.states.PrivateRecord.{PrivateRecord}
-use Rattle.private_record.specs.declared.rows.Row.{Row}
-use Rattle.private_record.specs.declared.rows.Row.the-variants.{Discard}
 use Rattle.private_record.proofs.WellFormed.{fit}
 use Rattle.private_rows.specs.Rows.{rowNumber, rowOf}
+use Rattle.private_rows.specs.declared.Row.{Row}
+use Rattle.private_rows.specs.declared.Row.the-variants.{Discard}
 use Rattle.private_rows.proofs.Meets.{same-row}
-use Rattle.private_carried.specs.Carried.{carryOut}
-use Rattle.private_carried.specs.declared.Carried.{Carried}
+use Rattle.private_call.specs.Carried.{carryOut}
+use Rattle.private_call.specs.Step.{identifierTaken, numberBeforeSending, doneOf, lineWith, stepLine, stepNumber, refusedOf, movedOf, discarded, answerMet, bufferWith, stepOf, stepBuffer}
+use Rattle.private_call.specs.declared.carrying.Carried.{Carried}
+use Rattle.private_call.specs.declared.Stepped.{Stepped}
 use Rattle.private_call.proofs.Keeping.{carried-well-formed, carried-sends-good}
 use Rattle.private_call.proofs.Discarding.{carried-nothing}
-use Rattle.private_call.specs.declared.Stepped.{Stepped}
-use Rattle.private_call.specs.Step.{identifierTaken, numberBeforeSending, doneOf, lineWith, stepLine, stepNumber, refusedOf, movedOf, discarded, answerMet, bufferWith, stepOf, stepBuffer}
 
 -- a discard sends nothing
 discard-sends : (s : Settings) (p : PrivateRecord) (i : Input) → lineWith Discard s p i ≡ []

@@ -1,3 +1,5 @@
+pub mod Effects
+pub mod Carried
 pub mod Step
 pub mod Running
 pub mod NoReply

@@ -14,8 +14,8 @@ use Rattle.call.specs.declared.Input.{Input}
 use Rattle.private_record.specs.Formed.{callRequest}
 use Rattle.private_record.specs.declared.states.Phase.{Phase}
 use Rattle.private_record.specs.declared.states.PrivateCall.{PrivateCall}
-use Rattle.private_record.specs.declared.rows.Row.{Row}
-use Rattle.private_record.specs.declared.rows.Row.the-variants.{R1, R8, R9, R20, R23}
+use Rattle.private_rows.specs.declared.Row.{Row}
+use Rattle.private_rows.specs.declared.Row.the-variants.{R1, R8, R9, R20, R23}
 use Rattle.private_call.specs.Running.{expiry}
 
 -- the counters CFP1, CFP3 and CFP4

@@ -9,16 +9,16 @@ use Rattle.call.specs.Request.{requestOf}
 use Rattle.call.specs.declared.Settings.{Settings}
 use Rattle.call.specs.declared.Event.{Event}
 use Rattle.call.specs.declared.Input.{Input}
-use Rattle.step_numbers.specs.Numbers.{numberOfTests}
-use Rattle.stepping.specs.Sending.{lineSent, numberSending}
+use Rattle.stepping.specs.Numbers.{numberOfTests, numberSending}
+use Rattle.stepping.specs.Sending.{lineSent}
 use Rattle.private_record.specs.Phases.{noTimer}
 use Rattle.private_record.specs.Formed.{wellFormed}
 use Rattle.private_record.specs.declared.states.PrivateRecord.{PrivateRecord}
-use Rattle.private_record.specs.declared.rows.Row.{Row}
 use Rattle.private_rows.specs.Causes.{sameIdentifier}
 use Rattle.private_rows.specs.Rows.{rowNumber, rowOf}
-use Rattle.private_carried.specs.Carried.{carryOut}
-use Rattle.private_carried.specs.declared.Carried.{Carried}
+use Rattle.private_rows.specs.declared.Row.{Row}
+use Rattle.private_call.specs.Carried.{carryOut}
+use Rattle.private_call.specs.declared.carrying.Carried.{Carried}
 use Rattle.private_call.specs.declared.Stepped.{Stepped}
 
 -- ---- the number of a step that meets a row

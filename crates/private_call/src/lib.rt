@@ -1,19 +1,23 @@
-// The private call machine: one step.
+// The private call machine: what each row does, what holds for all rows, and one step.
+mod carrying;
+mod effects;
+mod timers;
+
 ghost use mathlib.Core.Path.{_≡_};
 ghost use Rattle.private_rows.specs.Rows.{rowNumber};
 ghost use Rattle.private_call.specs.Step.{identifierTaken, refusedOf, movedOf, stepOf, stepBuffer};
+use crate::carrying::Carried;
+use crate::carrying::carry_out;
 use call::Event;
 use call::Input;
 use call::Settings;
 use call::request_of;
-use private_carried::Carried;
-use private_carried::carry_out;
-use private_record::rows::Row;
 use private_record::states::PrivateRecord;
 use private_record::states::Timers;
 use private_record::well_formed;
+use private_rows::Row;
 use private_rows::row_of;
-use step_numbers::number_before_row;
+use stepping::number_before_row;
 use stepping::write_sent;
 use writer::Written;
 

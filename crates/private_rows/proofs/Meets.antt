@@ -1,19 +1,19 @@
--- The code finds the row that is met; the expiry of a timer that does not run meets none. Assumes nothing.
+-- The code finds the row that is met, and no event meets two; the expiry of a timer that does not run meets none. Assumes nothing.
 use mathlib.Core.Path.{_≡_, refl, sym, ap, _∙_}
 use mathlib.Core.List.{List, [], _∷_}
 use mathlib.Core.Bool.{Bool, true, false, _||_, true≢false}
 use lib.ListN.{getD}
 use lib.Dec.{eqb}
-use Rattle.call.proofs.Laws.{by-number}
-use Rattle.call.specs.Meeting.{firstMet}
+use Rattle.call.specs.Meeting.{firstMet, oneMet}
 use Rattle.call.specs.declared.PrivateTimer.{PrivateTimer}
+use Rattle.call.proofs.Laws.{by-number}
 use Rattle.private_record.specs.declared.states.Phase.{Phase}
-use Rattle.private_record.specs.declared.rows.Row.{Row}
-use Rattle.private_record.specs.declared.rows.Row.the-variants.{Discard, R1, R2, R3, R4, R5, R6, R7, R8, R9, R10, R11, R12, R13, R14, R15, R16, R17, R18, R19, R20, R21, R22, R23, R24, R25, R26, R27, R28, R29}
 use Rattle.private_rows.specs.Causes.{privateTimerCause}
 use Rattle.private_rows.specs.Asking.{runs}
 use Rattle.private_rows.specs.Rows.{rowNumber, rowIn, rowsAsk}
 use Rattle.private_rows.specs.Found.{atOf, foundAt}
+use Rattle.private_rows.specs.declared.Row.{Row}
+use Rattle.private_rows.specs.declared.Row.the-variants.{Discard, R1, R2, R3, R4, R5, R6, R7, R8, R9, R10, R11, R12, R13, R14, R15, R16, R17, R18, R19, R20, R21, R22, R23, R24, R25, R26, R27, R28, R29}
 use Rattle.private_rows.specs.declared.causes.Cause.{Cause}
 use Rattle.private_rows.specs.declared.causes.Facts.{Facts}
 use Rattle.private_rows.proofs.Everywhere.{everyPhase, at-phase, everyTimer, at-timer, everywhere, anywhere}
@@ -90,3 +90,7 @@ quiet-expiry t f x h =
     other : (a b : Bool) → a ≡ false → (a || b) ≡ true → b ≡ true
     other true b h e = absurd (true≢false h)
     other false b h e = e
+
+-- one row at most is met, everywhere
+pub rows-apart : (f : Phase) (c : Cause) (x : Facts) → oneMet (rowsAsk f c x) ≡ true
+rows-apart = anywhere (λ f c x. oneMet (rowsAsk f c x)) (λ x. refl)

@@ -1,4 +1,4 @@
-// The row that an event meets from a private record.
+// The rows R1 to R29 by name, and which of them an event meets from a private record.
 mod causes;
 mod phases;
 mod rows;
@@ -11,8 +11,41 @@ use crate::phases::phase_in;
 use crate::rows::row_in;
 use call::Input;
 use call::Settings;
-use private_record::rows::Row;
 use private_record::states::PrivateRecord;
+
+// The rows by name, and Discard where none is met.
+pub enum Row {
+    Discard,
+    R1,
+    R2,
+    R3,
+    R4,
+    R5,
+    R6,
+    R7,
+    R8,
+    R9,
+    R10,
+    R11,
+    R12,
+    R13,
+    R14,
+    R15,
+    R16,
+    R17,
+    R18,
+    R19,
+    R20,
+    R21,
+    R22,
+    R23,
+    R24,
+    R25,
+    R26,
+    R27,
+    R28,
+    R29,
+}
 
 // The row that an event meets from a record.
 pub fn row_of(settings: Settings, stored: PrivateRecord, input: Input) -> Row

@@ -3,9 +3,9 @@ ghost use mathlib.Core.Path.{_≡_};
 ghost use Rattle.private_rows.specs.Found.{orderOf, atOf, met as metOf, either as eitherOf, setupRow};
 ghost use Rattle.private_rows.specs.Found.{acceptRow, foundAt};
 ghost use Rattle.private_rows.specs.Rows.{rowIn};
+use crate::Row;
 use crate::causes::Cause;
 use crate::causes::Facts;
-use private_record::rows::Row;
 use private_record::states::Phase;
 
 // The answers of a phase to what rows ask of it.

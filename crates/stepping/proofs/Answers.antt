@@ -12,8 +12,8 @@ use Rattle.writer.specs.Lent.{lentAfter}
 use Rattle.call.specs.declared.Settings.{Settings}
 use Rattle.call.specs.declared.Input.{Input}
 use Rattle.call.specs.declared.Send.{Send}
-use Rattle.step_numbers.specs.Numbers.{numberBeforeRow, numberOfTests}
-use Rattle.stepping.specs.Sending.{lineSent, sendNumber, sendTold, sendBuffer, numberSending}
+use Rattle.stepping.specs.Numbers.{numberBeforeRow, numberOfTests, numberSending}
+use Rattle.stepping.specs.Sending.{lineSent, sendNumber, sendTold, sendBuffer}
 use Rattle.stepping.proofs.Stepping.{tests-parts}
 
 -- what holds of an answer that is carried out and of one that refuses holds of the answer

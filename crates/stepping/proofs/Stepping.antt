@@ -19,8 +19,8 @@ use Rattle.call.specs.declared.Settings.{Settings}
 use Rattle.call.specs.declared.Input.{Input}
 use Rattle.call.specs.declared.Send.{Send}
 use Rattle.call.proofs.Laws.{holds}
-use Rattle.step_numbers.specs.Numbers.{heardGood, argumentsGood, numberBeforeRow, numberOfTests}
-use Rattle.stepping.specs.Sending.{lineSent, sendNumber, numberSending}
+use Rattle.stepping.specs.Numbers.{heardGood, argumentsGood, numberBeforeRow, numberOfTests, numberSending}
+use Rattle.stepping.specs.Sending.{lineSent, sendNumber}
 
 -- ---- the tests
 

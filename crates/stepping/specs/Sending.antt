@@ -1,8 +1,6 @@
 -- What a step sends, written into a lent buffer. Assumes nothing.
 use Prim.Native.Nat.{ℕ}
 use mathlib.Core.List.{List, []}
-use mathlib.Core.Bool.{cond}
-use lib.Dec.{eqb}
 use Rattle.frame.specs.Layout.{lineOf}
 use Rattle.frame.specs.declared.Media.{Media}
 use Rattle.writer.specs.Lent.{told, lentAfter}
@@ -27,7 +25,3 @@ sendTold sent media out = told (sendNumber sent media out) (lineSent sent media)
 -- the buffer with the line at its front, or as it was
 abbrev pub sendBuffer : Send → Media → List ℕ → List ℕ
 sendBuffer sent media out = lentAfter (sendNumber sent media out) (lineSent sent media) out
-
--- the number of a step: that of a test, else the writer's of what is sent
-abbrev pub numberSending : ℕ → Send → Media → List ℕ → ℕ
-numberSending tested sent media out = cond (eqb tested 0) (sendNumber sent media out) tested

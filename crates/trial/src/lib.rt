@@ -1,10 +1,11 @@
-// Entries for the host's own trials of what the panel shell does not call: the values that a line is read as, and the
-// line that values are written as.
+// Entries for the host's own trials of what the panel shell does not call: the values that a line is read as, the line
+// that values are written as, and the answer to a log.
 mod carried;
 mod values;
 
 ghost use mathlib.Core.Path.{_≡_};
 ghost use lib.ListN.{getD};
+ghost use Rattle.log.specs.Answer.{answerTold, answerBuffer};
 ghost use Rattle.trial.specs.Values.{lineValues, valuesNumber, valuesBuffer};
 use crate::values::media_from;
 use crate::values::message_from;
@@ -43,4 +44,14 @@ pub extern "C" fn trial_write_line(values: &[u32], out: &mut [u8]) -> u32
     }
     let written = writer::write_line(message_from(kind, values), media_from(kind, values), out);
     written.number as u32
+}
+
+// The answer to a log at the front of a lent buffer, and its length; where there is no room, 0.
+#[no_mangle]
+pub extern "C" fn trial_answer_log(log: &[u8], out: &mut [u8]) -> usize
+    ensures { λ r. ⌜ r ≡ answerTold (now (log .entry)) (now (out .entry)) .length ⌝ }
+    ensures { λ _. ⌜ now (out .exit) ≡ answerBuffer (now (log .entry)) (now (out .entry)) ⌝ }
+{
+    let answered = log::answer_log(log, out);
+    answered.length
 }

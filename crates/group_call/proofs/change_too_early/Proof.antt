@@ -9,4 +9,5 @@ change-too-early-spec =
     (tie.spec
     (λ c κs. search needs)
     (λ c κs. search needs)
-    (λ c. rw (c .before .before .row-number .ensures, c .before .before .before .before .announced-of .ensures)))
+    (λ c κs. search needs)
+    (λ c. rw (c .later .ensures, c .before .row-number .ensures, c .before .before .before .announced-of .ensures)))

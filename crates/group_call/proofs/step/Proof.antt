@@ -3,13 +3,13 @@ use Prim.Native.Nat.{ℕ}
 use mathlib.Core.Path.{_≡_, sym, ap, _∙_}
 use mathlib.Core.Bool.{Bool}
 use Rattle.writer.specs.declared.Written.{Written}
-use Rattle.step_numbers.specs.Numbers.{numberBeforeRow}
+use Rattle.stepping.specs.Numbers.{numberBeforeRow}
 use Rattle.stepping.specs.Sending.{sendTold, sendBuffer}
 use Rattle.group_record.specs.Formed.{wellFormed}
-use Rattle.group_record.specs.declared.rows.Row.{Row}
+use Rattle.group_rows.specs.declared.Row.{Row}
 use Rattle.group_rows.specs.Rows.{rowNumber, rowOf}
-use Rattle.group_carried.specs.Carried.{carryOut}
-use Rattle.group_carried.specs.declared.Carried.{Carried}
+use Rattle.group_call.specs.Carried.{carryOut}
+use Rattle.group_call.specs.declared.carrying.Carried.{Carried}
 use Rattle.group_call.specs.Step.{changeTooEarly, doneOf, refusedOf, movedOf}
 use Rattle.group_call.proofs.Answers.{refused-first, refused-by-row, refused-sending, carried-out}
 use Rattle.group_call.proofs.Steps.{answered-at-once}

@@ -3,13 +3,13 @@ use Prim.Native.Nat.{ℕ}
 use mathlib.Core.Path.{_≡_, sym, ap, _∙_}
 use mathlib.Core.Bool.{Bool}
 use Rattle.writer.specs.declared.Written.{Written}
-use Rattle.step_numbers.specs.Numbers.{numberBeforeRow}
+use Rattle.stepping.specs.Numbers.{numberBeforeRow}
 use Rattle.stepping.specs.Sending.{sendTold, sendBuffer}
 use Rattle.private_record.specs.Formed.{wellFormed}
-use Rattle.private_record.specs.declared.rows.Row.{Row}
+use Rattle.private_rows.specs.declared.Row.{Row}
 use Rattle.private_rows.specs.Rows.{rowNumber, rowOf}
-use Rattle.private_carried.specs.Carried.{carryOut}
-use Rattle.private_carried.specs.declared.Carried.{Carried}
+use Rattle.private_call.specs.Carried.{carryOut}
+use Rattle.private_call.specs.declared.carrying.Carried.{Carried}
 use Rattle.private_call.specs.Step.{identifierTaken, doneOf, refusedOf, movedOf}
 use Rattle.private_call.proofs.Answers.{refused-first, refused-by-row, refused-sending, carried-out}
 use Rattle.private_call.proofs.Steps.{answered-at-once}

@@ -1,5 +1,5 @@
 # shellcheck shell=bash
-# For the commands at the root, which read this file: a program that takes the file that is named, or standard input.
+# For the commands of bin/, which read this file: a program that takes the file that is named, or standard input.
 
 # Says one line on standard error, behind the name of the command, and gives up.
 fail() {

@@ -34,7 +34,7 @@ public_functions() {
 edits() { find crates -path '*/must-fail/*.edit' | sed 's|^crates/\([^/]*\)/must-fail/\(.*\)\.edit$|\1/\2|' | sort; }
 
 # Where the theorems of one answer stand.
-one_answer=crates/promises/proofs/OneAnswer.antt
+one_answer=$(echo crates/promises/proofs/OneAnswer*.antt)
 
 # What a document writes between backquotes.
 quoted() { grep -o '`[^`]*`' "$1" | tr -d '`' | sort -u; }
@@ -46,14 +46,27 @@ for crate in crates/*/; do
 done
 verdict "every folder of crates/ is listed in crates.txt" "$wrong"
 
-# Prints what each crate stands on, NAME: A, B, by crates.txt; what the kit brings is not told.
-stands_on() { sed -E 's/#.*//; /^ *$/d; s/ (bytes|io|libc)\b//g; s/: */: /; s/([a-z_]) ([a-z_])/\1, \2/g' crates.txt | sort; }
+# Prints LAYER NAME for each crate, as crates.txt has them and as the map of README.md does: the name of a layer stands ahead of its crates.
+layers() { awk '/^# [A-Za-z]+$/ { layer = $2 } /^[a-z]/ { sub(/:.*/, ""); print layer, $1 }' crates.txt; }
+mapped() { sed -nE 's/^\| ([A-Za-z]*) ?\| \[([a-z_]+)\]\(crates\/\2\) \| [^|]+ \|$/\1 \2/p' README.md | awk 'NF == 2 { layer = $1 } { print layer, $NF }'; }
+wrong=$(diff <(layers) <(mapped) | grep '^[<>]' | paste -s -d ';')
+names=$(layers | cut -d ' ' -f 1 | uniq | paste -s -d ' ')
+[ "$names" = 'lines logs machines programs C demands' ] || wrong="$wrong $names"
+verdict "the map of README.md has the crates and the six layers of crates.txt, in their order" "$wrong"
 
-# Prints the same by the map of README.md, which has words for demands and promises: these are not compared.
-mapped() { sed -nE 's/^\| \[([a-z_]+)\]\(crates\/[a-z_]+\) \|.*\| ?([^|]*) \|$/\1: \2/p' README.md | sort; }
-wrong=$({ diff <(listed | sort) <(mapped | cut -d : -f 1) && diff <(stands_on) <(mapped) | grep -vE '^[<>] (demands|promises): '; } |
-    grep '^[<>]' | paste -s -d ';')
-verdict "the map of README.md has every crate, with what it stands on" "$wrong"
+# Prints NAME:DEPENDENCY for each crate that stands on one that is listed behind it.
+upwards() {
+    awk 'NR == FNR { crate[$0]; next } { sub(/#.*/, ""); sub(/:/, "") } { for (i = 2; i <= NF; i++) if ($i in crate && !($i in seen)) print $1 ":" $i; seen[$1] }' \
+        <(listed) crates.txt | paste -s -d ' '
+}
+verdict "every crate of crates.txt stands on crates ahead of it alone" "$(upwards)"
+
+wrong=$(wc -l <README.md | awk '$1 > 150')
+verdict "README.md has at most 150 lines" "$wrong"
+
+# Where git knows of no tree, all files count.
+wrong=$({ git ls-files 2>/dev/null || find . -maxdepth 1 -type f -printf '%f\n'; } | grep -v / | grep -vxE 'README\.md|crates\.txt|\.gitignore' | paste -s -d ' ')
+verdict "the root has README.md and crates.txt, and folders" "$wrong"
 
 wrong=''
 for name in $(public_functions); do
@@ -64,8 +77,10 @@ verdict "docs/PROMISES.md has every public function" "$wrong"
 wrong=''
 for name in $(public_functions); do
     path=$(echo "$name" | sed 's/::/.proofs./; s/::/./g')
-    theorem=$(sed -n "s/^use Rattle\.$path\.Reads as \(.*\)/\1-one/p" "$one_answer")
-    grep -q "^pub ${theorem:-none} : " "$one_answer" && grep -qF "One answer: \`$theorem\`" docs/PROMISES.md || wrong="$wrong $name"
+    # shellcheck disable=SC2086
+    file=$(grep -l "^use Rattle\.$path\.Reads as " $one_answer)
+    theorem=$(sed -n "s/^use Rattle\.$path\.Reads as \(.*\)/\1-one/p" "${file:-/dev/null}")
+    grep -q "^pub ${theorem:-none} : " "${file:-/dev/null}" && grep -qF "One answer: \`$theorem\`" docs/PROMISES.md || wrong="$wrong $name"
 done
 verdict "every public function has its theorem of one answer" "$wrong"
 
@@ -133,6 +148,13 @@ for page in README.md docs/*.md; do
 done
 verdict "every link of README.md and docs/ leads somewhere" "$wrong"
 
+wrong=''
+for file in crates/*/specs/*.antt; do
+    case $file in */Lib.antt | */Found.antt) continue ;; esac
+    grep -qF "](../$file)" docs/READING.md || wrong="$wrong $file"
+done
+verdict "docs/READING.md leads to every file of definitions" "$wrong"
+
 # ---- docs/SLIPS.md
 
 # Prints the text of one slip, by its number.
@@ -154,11 +176,11 @@ for n in {1..7}; do
     [ -n "$(named_links "$text" antt)" ] || wrong="$wrong $n:theorem"
     [ -n "$(named_links "$text" edit)" ] || wrong="$wrong $n:edit"
     [ -n "$(fenced "$text")" ] || wrong="$wrong $n:excerpt"
-    script=$(sed -n 's/^    \.\/drill //p' <<<"$text")
+    script=$(sed -n 's/^    bin\/drill //p' <<<"$text")
     name=$(sed -n 's/^    bash host\/rehearse\.sh --slip \([^ ]*\)$/\1/p' <<<"$text")
     [[ $script =~ ^samples/[a-z-]+\.drill$ && $name =~ ^[a-z0-9-]+$ ]] || wrong="$wrong $n:$script:$name"
-    commands=$(printf '%s\n' "./drill $script" "bash host/rehearse.sh --slip $name" "bash host/rehearse.sh --slip $name --play $script")
-    [ "$(sed -n 's/^    //p' <<<"$text" | grep -E '^(\./drill|bash) ')" = "$commands" ] || wrong="$wrong $n:commands"
+    commands=$(printf '%s\n' "bin/drill $script" "bash host/rehearse.sh --slip $name" "bash host/rehearse.sh --slip $name --play $script")
+    [ "$(sed -n 's/^    //p' <<<"$text" | grep -E '^(bin/drill|bash) ')" = "$commands" ] || wrong="$wrong $n:commands"
     anchor=$(head -n 1 <<<"$text" | sed 's/^## //; s/[^A-Za-z0-9 -]//g; s/ /-/g' | tr '[:upper:]' '[:lower:]')
     grep -qF "](#$anchor)" docs/SLIPS.md || wrong="$wrong $n:#$anchor"
 done
@@ -179,8 +201,8 @@ for n in {1..7}; do
     mapfile -t files < <(grep -o '](\.\./[^)]*\.antt)' <<<"$text" | sed 's|](\.\./\(.*\))|\1|')
     while read -r line; do
         grep -qhF -- "$line" "${files[@]}" || wrong="$wrong $n:$line"
-    done < <(sed -n 's/^    //p' <<<"$text" | grep -vE '^(\./drill|bash) ')
-    script=$(sed -n 's/^    \.\/drill //p' <<<"$text")
+    done < <(sed -n 's/^    //p' <<<"$text" | grep -vE '^(bin/drill|bash) ')
+    script=$(sed -n 's/^    bin\/drill //p' <<<"$text")
     while read -r line; do
         grep -qxF -- "$line" "${script%.drill}.shown" || wrong="$wrong $n:$line"
     done < <(fenced "$text")

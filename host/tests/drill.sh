@@ -1,5 +1,5 @@
 #!/usr/bin/env bash
-# The program drill, built and run: its lessons, what it cannot read, the ends of its input, and the script at the root.
+# The program drill, built and run: its lessons, what it cannot read, the ends of its input, and its command.
 set -u
 cd "$(dirname "${BASH_SOURCE[0]}")/../.." || exit 2
 . host/verdict.sh
@@ -45,7 +45,7 @@ shown_in_page() { sed -n "/$1/,\$p" docs/DRILL.md | sed -n '/^```$/,/^```$/p' | 
 
 for script in samples/*.drill; do
     cp "${script%.drill}.shown" "$room/wanted"
-    ./drill "$script" >"$room/wrote" 2>"$room/said"
+    bin/drill "$script" >"$room/wrote" 2>"$room/said"
     judge "$script prints what is stored" $?
 done
 
@@ -66,9 +66,8 @@ cp samples/private-call.shown "$room/wanted"
 shown_in_page 'It prints this' >"$room/wrote"
 judge "docs/DRILL.md shows what the worked script prints" 0
 
-tail -n 2 samples/two-group-calls.shown >"$room/wanted"
-sed -n '/^## A drill/,/^## From C/p' README.md | sed -n '/^```$/,/^```$/p' | sed '1d;$d' >"$room/wrote"
-judge "the README shows how its script ends" 0
+grep -qF "\`$(tail -n 1 samples/two-group-calls.shown)\`" README.md && grep -qF '`bin/drill samples/two-group-calls.drill`' README.md
+verdict "the README says how its script ends" "$([ $? -eq 0 ] || echo differs)"
 
 # ---- what it cannot read
 
@@ -160,16 +159,16 @@ judge "a line whose end is byte 65,536 is played" $?
 "${drill[@]}" <samples/private-call.drill >/dev/full 2>"$room/said"
 judge "an answer that cannot be written is named once" $? 0 "drill: the answer could not be written"
 
-# ---- the script at the root
+# ---- the command
 
 cp samples/old-timer.shown "$room/wanted"
-(cd samples && ../drill - <old-timer.drill) >"$room/wrote" 2>"$room/said"
+(cd samples && ../bin/drill - <old-timer.drill) >"$room/wrote" 2>"$room/said"
 judge "standard input is played as the file is, from any folder" $?
-./drill "$room/none" >"$room/wrote" 2>"$room/said"
+bin/drill "$room/none" >"$room/wrote" 2>"$room/said"
 judge_refusal "a script that is not there is named" $? "drill: $room/none: no such file"
-./drill samples/old-timer.drill twice >"$room/wrote" 2>"$room/said"
+bin/drill samples/old-timer.drill twice >"$room/wrote" 2>"$room/said"
 judge_refusal "two scripts are one too many" $? "drill: usage: drill [SCRIPT]"
-./drill --help >"$room/wrote" 2>"$room/said"
+bin/drill --help >"$room/wrote" 2>"$room/said"
 verdict "--help says how to call it" "$(grep -q '^drill \[SCRIPT\]: ' "$room/wrote" || echo "printed: $(head -n 1 "$room/wrote")")"
 
 exit $status

@@ -1,5 +1,5 @@
 #!/usr/bin/env bash
-# The program lines, built and run: the ends of its input, how it is fed, and the script at the root.
+# The program lines, built and run: the ends of its input, how it is fed, its command, and docs/LOGS.md.
 set -u
 cd "$(dirname "${BASH_SOURCE[0]}")/../.." || exit 2
 . host/verdict.sh
@@ -84,36 +84,36 @@ judge "a slow reader gets all 196,608 bytes of the longest answer" "$ended"
 answer <"$room/whole" >/dev/full 2>"$room/said"
 judge "an answer that cannot be written is named" $? 0 "lines: the answer could not be written"
 
-# ---- the script at the root
+# ---- the command
 
 sample=samples/night-shift.log
 sed -n '/^```$/,/^```$/p' README.md | sed '1d' | sed '/^```$/,$d' >"$room/wanted"
-./lines "$sample" >"$room/wrote" 2>"$room/said"
+bin/lines "$sample" >"$room/wrote" 2>"$room/said"
 judge "the README shows what its first command prints" $?
 
-(cd samples && ../lines <"${sample#samples/}") >"$room/wrote" 2>"$room/said"
+(cd samples && ../bin/lines <"${sample#samples/}") >"$room/wrote" 2>"$room/said"
 judge "standard input is answered as the file is, from any folder" $?
 
-./lines - <"$sample" >"$room/wrote" 2>"$room/said"
+bin/lines - <"$sample" >"$room/wrote" 2>"$room/said"
 judge "a - stands for standard input" $?
 
 cp "$sample" "$room/a log"
-./lines "$room/a log" >"$room/wrote" 2>"$room/said"
+bin/lines "$room/a log" >"$room/wrote" 2>"$room/said"
 judge "a log may have a blank in its name" $?
 
 cp "$room/full" "$room/wanted"
-./lines "$room/full" >"$room/wrote" 2>"$room/said"
+bin/lines "$room/full" >"$room/wrote" 2>"$room/said"
 judge "a log of 65,536 bytes is answered whole" $?
 
 { cat "$room/full" && echo; } >"$room/long"
-./lines "$room/long" >"$room/wrote" 2>"$room/said"
+bin/lines "$room/long" >"$room/wrote" 2>"$room/said"
 judge "a longer log is cut, and the cut is named" $? 0 "lines: $room/long: only its first 65536 bytes are answered"
 
 # One case: the script, given the words from the third on, must refuse them, and say just the second word.
 refuses() {
     local name=$1 line=$2
     shift 2
-    ./lines "$@" >"$room/wrote" 2>"$room/said" </dev/null
+    bin/lines "$@" >"$room/wrote" 2>"$room/said" </dev/null
     judge_refusal "$name" $? "$line"
 }
 refuses "a log that is not there is named" "lines: $room/none: no such file" "$room/none"
@@ -121,12 +121,24 @@ refuses "a log without a name is not there" "lines: : no such file" ""
 refuses "a folder is no log" "lines: $room: is a folder" "$room"
 refuses "two logs are one too many" "lines: usage: lines [LOG]" "$sample" "$sample"
 
-./lines --help >"$room/wrote" 2>"$room/said"
+bin/lines --help >"$room/wrote" 2>"$room/said"
 verdict "--help says how to call it" "$(grep -q '^lines \[LOG\]: ' "$room/wrote" || echo "printed: $(head -n 1 "$room/wrote")")"
+
+# ---- docs/LOGS.md
+
+bin/lines "$sample" >"$room/sample"
+awk '/^!/ { print NR, $0 }' "$room/sample" >"$room/wanted"
+sed -nE 's/^\| ([0-9]+) \| .* \| `(![1-5])` \|$/\1 \2/p' docs/LOGS.md >"$room/wrote"
+: >"$room/said"
+judge "docs/LOGS.md has each line of its log that cannot be read, with its number" 0
+
+# Each kind with its digits, by the page, where its bytes are half as many, and by the lines that can be read.
+sed -nE 's/^\| (0[1-9]) \| [A-Z ]+ \| .* \| ([0-9]+) \| ([0-9]+) \|$/\1 \2 \3/p' docs/LOGS.md | awk '2 * $2 == $3 { print $1, $3 }' >"$room/wanted"
+grep -hE '^0' "$room/sample" crates/lines/stdout | awk '{ print substr($0, 1, 2), length }' | sort -u >"$room/wrote"
+judge "docs/LOGS.md has each kind, with its length" 0
 
 # ---- what the stored logs hold
 
-./lines "$sample" >"$room/sample"
 missing=''
 for stored in crates/lines/stdout "$room/sample"; do
     for start in 01 02 03 04 05 06 07 08 09 '!1' '!2' '!3' '!4' '!5'; do

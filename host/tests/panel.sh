@@ -179,17 +179,17 @@ done
 
 # ---- a newcomer's program
 
-sed -n '/^```c$/,/^```$/p' README.md | sed '1d;$d' >"$room/mine.c"
+sed -n '/^```c$/,/^```$/p' docs/C.md | sed '1d;$d' >"$room/mine.c"
 sed -n 's|^/\* prints: \(.*\) \*/$|\1|p' "$room/mine.c" >"$room/wanted"
-[ -s "$room/wanted" ] || echo "what the program of README.md says that it prints" >"$room/wanted"
-command=$(sed -n 's/^    \(cc .* mine\.c .*\)$/\1/p' README.md)
+[ -s "$room/wanted" ] || echo "what the program of docs/C.md says that it prints" >"$room/wanted"
+command=$(sed -n 's/^    \(cc .* mine\.c .*\)$/\1/p' docs/C.md)
 ln -s "$(pwd -P)/target" "$room/target"
 (cd "$room" && eval "${command:-false}" && ./mine) >"$room/wrote" 2>"$room/said"
-judge "the program in README.md compiles by the command that stands there, and prints what it says" $?
+judge "the program in docs/C.md compiles by the command that stands there, and prints what it says" $?
 
 # shellcheck disable=SC2086
 gcc -std=c99 $warnings -fsyntax-only -I target/panel "$room/mine.c" >"$room/wrote" 2>&1
-verdict "the program in README.md has no warning" "$(head -n 1 "$room/wrote")"
+verdict "the program in docs/C.md has no warning" "$(head -n 1 "$room/wrote")"
 
 # shellcheck disable=SC2086
 g++ -x c++ $warnings -I target/panel -o "$room/mine" "$room/mine.c" -x none target/panel/libpanel.a 2>"$room/said" &&

@@ -139,8 +139,8 @@ mod tests {
             slip: None,
         };
         assert!(HELP.contains("(1)") && HELP.contains("(1000000)"));
-        let run = Task::Rehearse(full, program(&["./drill"]));
-        assert_eq!(parsed("-- ./drill"), Ok(run));
+        let run = Task::Rehearse(full, program(&["bin/drill"]));
+        assert_eq!(parsed("-- bin/drill"), Ok(run));
         for (place, slip) in SLIPS.iter().enumerate() {
             let given = Options {
                 seed: 7,

@@ -4,14 +4,10 @@
 # changed: the archives of panel and trial, proved and made for this machine, and the program that links them.
 set -u
 root=$(cd "$(dirname "${BASH_SOURCE[0]}")/.." && pwd -P) || exit 2
+. "$root/host/command.sh"
+about "$@"
 
-# Says one line on standard error and gives up.
-fail() {
-    echo "compare: $*" >&2
-    exit 2
-}
-
-command -v rt >/dev/null || fail "rt, the command of the Rattle kit, is not on the PATH"
+needs_kit
 cargo=$(command -v cargo) || fail "cargo, the command of the Rust toolchain, is not on the PATH"
 
 export STATICLIB=$root/target/archives

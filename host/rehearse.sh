@@ -4,12 +4,8 @@
 # but for a line the first time: it proves drill, and builds the program that compares, where anything has changed.
 set -u
 root=$(cd "$(dirname "${BASH_SOURCE[0]}")/.." && pwd -P) || exit 2
-
-# Says one line on standard error and gives up.
-fail() {
-    echo "rehearse: $*" >&2
-    exit 2
-}
+. "$root/host/command.sh"
+about "$@"
 
 cargo=$(command -v cargo) || fail "cargo, the command of the Rust toolchain, is not on the PATH"
 words=$(bash "$root/host/program.sh" --command drill </dev/null) || exit 2

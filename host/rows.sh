@@ -5,19 +5,16 @@
 # then 2.
 set -u
 export LC_ALL=C
-cd "$(dirname "${BASH_SOURCE[0]}")/.." || exit 2
+root=$(cd "$(dirname "${BASH_SOURCE[0]}")/.." && pwd -P) || exit 2
+. "$root/host/command.sh"
+about "$@"
+cd "$root" || exit 2
 page=docs/ROWS.md
-
-# Says one line on standard error and gives up.
-fail() {
-    echo "host/rows.sh: $*" >&2
-    exit 2
-}
 
 # Draws the table of a machine into $room: its name, the definitions of what runs in a state, and those on which only its rules rely.
 draw() {
     local folder=crates/$1
-    awk -v command=host/rows.sh -v words="host/rows/$1-call.words" -v rules="host/rows/both.rules host/rows/$1-call.rules" \
+    awk -v command="$called" -v words="host/rows/$1-call.words" -v rules="host/rows/both.rules host/rows/$1-call.rules" \
         -v causing="${folder}_rows/specs/Causes.antt" -v wording="${folder}_rows/specs/Asking.antt" -v asking="${folder}_rows/specs/Rows.antt" \
         -v doing="${folder}_call/specs/Effects.antt" -v running="$2" -v carrying="${folder}_call/specs/Carried.antt" \
         -v relied="crates/frame/specs/Media.antt crates/call/specs/Timing.antt crates/call/specs/Meeting.antt $3 ${folder}_call/specs/Step.antt" \
@@ -58,6 +55,6 @@ placed >"$room/page" || fail "$page: the lines between which the tables stand ar
 if [ $# -eq 0 ]; then
     cp "$room/page" "$page" || exit 2
 elif ! cmp -s "$room/page" "$page"; then
-    echo "host/rows.sh: not up to date: $page"
+    echo "$called: not up to date: $page"
     exit 1
 fi

@@ -1,5 +1,5 @@
 #!/usr/bin/env bash
-# The program drill, built and run: its lessons, what it cannot read, the ends of its input, and its command.
+# The program drill, built and run: its lessons, what it cannot read, and the ends of its input; host/tests/edges.sh has what its command does besides.
 set -u
 cd "$(dirname "${BASH_SOURCE[0]}")/../.." || exit 2
 . host/verdict.sh
@@ -14,7 +14,7 @@ verdict "the program is proved and built" "$(cat "$room/said")"
 [ $status -eq 0 ] || exit $status
 
 # Somebody else has rt, for longer than the program is waited for.
-flock -o target/.alone sleep 5 &
+flock -o .alone sleep 5 &
 busy=$!
 sleep 0.2
 timeout 2 bash host/program.sh --command drill >"$room/wrote" 2>"$room/said" </dev/null
@@ -158,17 +158,5 @@ judge "a line whose end is byte 65,536 is played" $?
 : >"$room/wanted"
 "${drill[@]}" <samples/private-call.drill >/dev/full 2>"$room/said"
 judge "an answer that cannot be written is named once" $? 0 "drill: the answer could not be written"
-
-# ---- the command
-
-cp samples/old-timer.shown "$room/wanted"
-(cd samples && ../bin/drill - <old-timer.drill) >"$room/wrote" 2>"$room/said"
-judge "standard input is played as the file is, from any folder" $?
-bin/drill "$room/none" >"$room/wrote" 2>"$room/said"
-judge_refusal "a script that is not there is named" $? "drill: $room/none: no such file"
-bin/drill samples/old-timer.drill twice >"$room/wrote" 2>"$room/said"
-judge_refusal "two scripts are one too many" $? "drill: usage: drill [SCRIPT]"
-bin/drill --help >"$room/wrote" 2>"$room/said"
-verdict "--help says how to call it" "$(grep -q '^drill \[SCRIPT\]: ' "$room/wrote" || echo "printed: $(head -n 1 "$room/wrote")")"
 
 exit $status

@@ -1,5 +1,5 @@
 #!/usr/bin/env bash
-# The program lines, built and run: the ends of its input, how it is fed, its command, and docs/LOGS.md.
+# The program lines, built and run: the ends of its input, how it is fed, and docs/LOGS.md; host/tests/edges.sh has what its command does besides.
 set -u
 cd "$(dirname "${BASH_SOURCE[0]}")/../.." || exit 2
 . host/verdict.sh
@@ -15,11 +15,14 @@ times() { yes "$1" | head -n "$2"; }
 # The program on its own, fed from standard input.
 answer() { bash host/program.sh lines; }
 
-# One case: the program, on the input $room/given.
+# One case: the program, on the input $room/given, says the second word, or nothing where there is none.
 case_of() {
     answer <"$room/given" >"$room/wrote" 2>"$room/said"
-    judge "$1" $?
+    judge "$1" $? 0 "${2-}"
 }
+
+# What it says of an input that has more than it answers.
+cut='lines: only the first 65536 bytes are answered'
 
 # Built ahead of the cases, so that none of them sees it being built.
 answer </dev/null >/dev/null 2>&1
@@ -37,23 +40,23 @@ cp "$room/full" "$room/wanted"
 case_of "65,536 bytes of readable lines come back whole"
 
 { cat "$room/full" && times $ringing 9; } >"$room/given"
-case_of "readable lines behind 65,536 bytes change nothing"
+case_of "readable lines behind 65,536 bytes change nothing, and that is said" "$cut"
 
 { cat "$room/full" && printf 'zz\n\n\0'; } >"$room/given"
-case_of "damage behind 65,536 bytes changes nothing"
+case_of "damage behind 65,536 bytes changes nothing" "$cut"
 
 # 2,849 lines of 23 bytes are 65,527: the cut leaves nine bytes of the next
 times $ringing 3000 >"$room/given"
 { times $ringing 2849 && echo '!1'; } >"$room/wanted"
-case_of "a line that the cut at 65,536 bytes leaves unended is answered !1"
+case_of "a line that the cut at 65,536 bytes leaves unended is answered !1" "$cut"
 
 yes $ringing | answer >"$room/wrote" 2>"$room/said"
-judge "input that never ends is answered all the same" "${PIPESTATUS[1]}"
+judge "input that never ends is answered all the same" "${PIPESTATUS[1]}" 0 "$cut"
 
 # 2,844 lines of 23 bytes and 5 of 25 make 65,537
 { times $ringing 2844 && times ${reject}02 5; } >"$room/given"
 { times $ringing 2844 && times ${reject}02 4 && echo '!1'; } >"$room/wanted"
-case_of "a line whose end is byte 65,537 is answered !1"
+case_of "a line whose end is byte 65,537 is answered !1" "$cut"
 
 times '' 65536 >"$room/given"
 times '!3' 65536 >"$room/wanted"
@@ -79,11 +82,6 @@ ended=${PIPESTATUS[1]}
 times '!3' 65536 >"$room/wanted"
 judge "a slow reader gets all 196,608 bytes of the longest answer" "$ended"
 
-: >"$room/wrote"
-: >"$room/wanted"
-answer <"$room/whole" >/dev/full 2>"$room/said"
-judge "an answer that cannot be written is named" $? 0 "lines: the answer could not be written"
-
 # ---- the command
 
 sample=samples/night-shift.log
@@ -91,38 +89,13 @@ sed -n '/^```$/,/^```$/p' README.md | sed '1d' | sed '/^```$/,$d' >"$room/wanted
 bin/lines "$sample" >"$room/wrote" 2>"$room/said"
 judge "the README shows what its first command prints" $?
 
-(cd samples && ../bin/lines <"${sample#samples/}") >"$room/wrote" 2>"$room/said"
-judge "standard input is answered as the file is, from any folder" $?
-
-bin/lines - <"$sample" >"$room/wrote" 2>"$room/said"
-judge "a - stands for standard input" $?
-
-cp "$sample" "$room/a log"
-bin/lines "$room/a log" >"$room/wrote" 2>"$room/said"
-judge "a log may have a blank in its name" $?
-
 cp "$room/full" "$room/wanted"
 bin/lines "$room/full" >"$room/wrote" 2>"$room/said"
 judge "a log of 65,536 bytes is answered whole" $?
 
 { cat "$room/full" && echo; } >"$room/long"
 bin/lines "$room/long" >"$room/wrote" 2>"$room/said"
-judge "a longer log is cut, and the cut is named" $? 0 "lines: $room/long: only its first 65536 bytes are answered"
-
-# One case: the script, given the words from the third on, must refuse them, and say just the second word.
-refuses() {
-    local name=$1 line=$2
-    shift 2
-    bin/lines "$@" >"$room/wrote" 2>"$room/said" </dev/null
-    judge_refusal "$name" $? "$line"
-}
-refuses "a log that is not there is named" "lines: $room/none: no such file" "$room/none"
-refuses "a log without a name is not there" "lines: : no such file" ""
-refuses "a folder is no log" "lines: $room: is a folder" "$room"
-refuses "two logs are one too many" "lines: usage: lines [LOG]" "$sample" "$sample"
-
-bin/lines --help >"$room/wrote" 2>"$room/said"
-verdict "--help says how to call it" "$(grep -q '^lines \[LOG\]: ' "$room/wrote" || echo "printed: $(head -n 1 "$room/wrote")")"
+judge "a longer log is cut, and the cut is named" $? 0 "$cut"
 
 # ---- docs/LOGS.md
 

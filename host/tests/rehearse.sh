@@ -23,12 +23,12 @@ wrongs() {
 # ---- the programs
 
 # Built ahead of the case, so that it does not see them being built for the first time.
-[ -x "$rehearse" ] && [ -x target/bin/drill ] || bash host/rehearse.sh --help </dev/null >/dev/null 2>&1
+[ -x "$rehearse" ] && [ -x target/bin/drill ] || bash host/rehearse.sh --seed 1 --help </dev/null >/dev/null 2>&1
 
-bash host/rehearse.sh --help >"$room/wrote" 2>"$room/said" </dev/null
+bash host/rehearse.sh --seed 1 --help >"$room/wrote" 2>"$room/said" </dev/null
 ended=$?
-verdict "host/rehearse.sh builds all it needs, and --help says how to call it" \
-    "$(wrongs 0; grep -q '^rehearse \[OPTIONS\] -- COMMAND' "$room/wrote" || echo "printed: $(head -n 1 "$room/wrote")")"
+verdict "host/rehearse.sh builds all it needs, and its program says how to call it, as the script does" \
+    "$(wrongs 0; bash host/rehearse.sh --help | diff - "$room/wrote" | head -n 2)"
 # Without programs of this state there is nothing to try.
 [ $status -eq 0 ] || exit $status
 mapfile -t drill < <(bash host/program.sh --command drill)

@@ -51,7 +51,7 @@ notices() {
     change "$2" "$3"
     run --check
     ended=$?
-    echo "host/rows.sh: not up to date: $page" >"$room/wanted"
+    echo "rows: not up to date: $page" >"$room/wanted"
     judge "noticed: $1" $ended 1
     cmp -s $page "$room/tree/$page" || wrong="the page is changed by --check"
     run
@@ -81,7 +81,7 @@ plant
 sed '/^| R20 | P0, P1 /s/CFP4 1/CFP4 2/' $page >"$room/tree/$page"
 run --check
 ended=$?
-echo "host/rows.sh: not up to date: $page" >"$room/wanted"
+echo "rows: not up to date: $page" >"$room/wanted"
 judge "noticed: a table that was changed by hand" $ended 1
 
 # ---- what it cannot read
@@ -91,7 +91,7 @@ refuses() {
     plant
     change "$2" "$3"
     run
-    judge_refusal "refused: $1" $? "host/rows.sh: $4"
+    judge_refusal "refused: $1" $? "rows: $4"
     [ "$2" = $page ] || cmp -s $page "$room/tree/$page" || verdict "nothing is written where a definition cannot be read" "it is"
 }
 refuses "a verb that is not defined" $private_effects '/^effectOf R8 /s/enters/jumps/' \
@@ -185,7 +185,7 @@ misused() {
     local name=$1
     shift
     run "$@"
-    judge_refusal "$name" $? "host/rows.sh: usage: host/rows.sh [--check]"
+    judge_refusal "$name" $? "rows: usage: host/rows.sh [--check]"
 }
 plant
 misused "another word is named" --chek

@@ -32,7 +32,7 @@ WANTED
 judge "a wrong program is run by a body of its own, and by a script" $ended
 
 # In a tree of its own: another promise, another tale, and an edit that does no longer fit.
-mkdir -p "$room/tree/host" && cp host/wrong.sh host/wrong.txt "$room/tree/host/" && cp -R --parents crates/*/src crates/*/must-fail "$room/tree/" || exit 2
+mkdir -p "$room/tree/host" && cp host/{wrong,command}.sh host/wrong.txt "$room/tree/host/" && cp -R --parents crates/*/src crates/*/must-fail "$room/tree/" || exit 2
 for change in 's/^\(frame\/reason_5_taken\): 0 promised/\1: 2 promised/' 's/^\(frame\/reason_5_taken: .*\) 1 told/\1 2 told/'; do
     sed "$change" host/wrong.txt >"$room/tree/host/wrong.txt"
     run "$room/tree" frame/reason_5_taken

@@ -216,7 +216,7 @@ static int written(int end)
     return now;
 }
 
-/* Says how to call the program, plays the log that is named, or refuses. */
+/* Says how to call the program or its version, plays the log that is named, or refuses. */
 int main(int argc, char *argv[])
 {
     int end = DONE;
@@ -228,6 +228,9 @@ int main(int argc, char *argv[])
         (void)printf("panel-shell [LOG]: says what each line of a log is, and which announced call wins.\n"
                      "Reads the file LOG, or standard input where none is named or LOG is -: at most 65,536 bytes.\n"
                      "Ends with 0; 1: not written, 2: bad usage or input, 3: memory beside its buffer was changed.\n");
+    } else if ((argc == 2) && (strcmp(argv[1], "--version") == 0)) {
+        (void)printf("panel-shell %lu.%lu.%lu\n", (unsigned long)PANEL_VERSION_MAJOR, (unsigned long)PANEL_VERSION_MINOR,
+                     (unsigned long)PANEL_VERSION_PATCH);
     } else {
         end = play_named((argc == 2) ? argv[1] : "-");
     }

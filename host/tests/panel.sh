@@ -15,26 +15,40 @@ found=99
 
 # ---- header, archive, shell
 
-# The archive is for x86-64: elsewhere it can be refused, and no more.
-if [ "$(uname -m)" != x86_64 ]; then
-    bash host/panel.sh >"$room/wrote" 2>"$room/said"
-    judge_refusal "a compiler for another machine is named" $? \
-        "panel: the archive is for 64-bit x86 Linux, and ${CC:-cc} compiles for $(${CC:-cc} -dumpmachine)"
-    left_out "the C entries, built and run" "this machine is $(uname -m), and the archive is for x86-64"
-    exit $status
-fi
-
 # Built ahead of the case, so that it does not see it being proved.
 bash host/panel.sh >/dev/null 2>&1
 CFLAGS='-Werror' bash host/panel.sh >"$room/wrote" 2>"$room/said"
 ended=$?
-printf '%s\n' target/panel/panel.h target/panel/libpanel.a target/panel/panel-shell >"$room/wanted"
-judge "one command builds header, archive and shell, without a warning" $ended
+printf 'target/panel/%s\n' panel.h libpanel.a geolmiwoo-panel.pc panel-shell panel-receive >"$room/wanted"
+judge "one command builds header, archive, shell and receive loop, without a warning" $ended
 # Without them there is nothing to try.
 [ $status -eq 0 ] || exit $status
 
 CC=no-such-compiler bash host/panel.sh >"$room/wrote" 2>"$room/said"
 judge_refusal "a compiler that is not there is named" $? "panel: no C compiler: no-such-compiler"
+
+printf '#!/bin/sh\necho sparc-sun-solaris\n' >"$room/other-cc" && chmod +x "$room/other-cc"
+CC=$room/other-cc bash host/panel.sh >"$room/wrote" 2>"$room/said"
+judge_refusal "a compiler for another machine is named" $? \
+    "panel: the archive is for $(uname -m)-linux-gnu, and $room/other-cc compiles for sparc-sun-solaris"
+
+bash host/panel.sh --for pdp11 >"$room/wrote" 2>"$room/said"
+judge_refusal "a machine that no archive can be made for is named, with those that one can" $? \
+    "panel: no target pdp11: it is one of x86_64-linux-gnu aarch64-linux-gnu armv7-linux-gnueabihf thumbv7em-none-eabi"
+
+for words in '--for' 'panel' '--for armv7-linux-gnueabihf panel' '--from armv7-linux-gnueabihf'; do
+    # shellcheck disable=SC2086
+    bash host/panel.sh $words >"$room/wrote" 2>"$room/said"
+    judge_refusal "the words $words are no usage" $? "panel: usage: host/panel.sh [--for TARGET]"
+done
+
+for word in --help -h; do
+    bash host/panel.sh $word >"$room/wrote" 2>"$room/said"
+    verdict "$word says how to call the script, and every target" "$([ ! -s "$room/said" ] && grep -q '^host/panel\.sh \[--for TARGET\]: ' "$room/wrote" &&
+        grep -q '^TARGET is one of x86_64-linux-gnu aarch64-linux-gnu armv7-linux-gnueabihf thumbv7em-none-eabi\.$' "$room/wrote" || head -n 1 "$room/wrote")"
+done
+
+# ---- the header
 
 # shellcheck disable=SC2086
 wrong=$(echo '#include "panel.h"' | gcc -x c -std=c99 $warnings -Wmissing-prototypes -fsyntax-only -I target/panel - 2>&1 | head -n 1)
@@ -47,16 +61,52 @@ verdict "the header alone is good C++, without a warning" "$wrong"
 # The declarations in C of the entries that the crate exports.
 declared() {
     sed -n 's/^pub extern "C" fn \(.*\)(\(.*\)) -> u32$/uint32_t \1(\2);/p' crates/panel/src/lib.rt |
-        sed 's/\([a-z_]*\): &\[u8\]/const uint8_t *\1, size_t \1_len/g'
+        sed 's/\([a-z_]*\): &\[u8\]/const uint8_t *\1, uint64_t \1_len/g' | sort
 }
-declared | sort >"$room/wanted"
-grep -E '^[a-z].*\);$' $header | sort >"$room/wrote"
+# The declarations of a header.
+declares() { grep -E '^[a-z].*\);$' "$1" | sort; }
+declared >"$room/wanted"
+declares $header >"$room/wrote"
 : >"$room/said"
 [ "$(grep -c '^pub extern "C" fn ' crates/panel/src/lib.rt)" -eq "$(wc -l <"$room/wanted")" ] || echo "an entry of the crate was not understood" >"$room/said"
 judge "the header declares the entries of the crate, as they are" 0
 
-# Whatever the archive has but code and constants of its own.
-nm target/panel/libpanel.a | sed -n 's/^[0-9a-f ]* \([^rt]\) \(.*\)$/\1 \2/p' | sort >"$room/wrote"
+sed 's/uint64_t \([a-z]*_len\)/size_t \1/g' $header >"$room/narrow.h"
+verdict "a header whose lengths are no longer of 64 bits would be found" "$(cmp -s <(declares "$room/narrow.h") "$room/wanted" && echo "it was not")"
+
+# Constants are of use to the preprocessor, and the three numbers of the version make the one.
+cat >"$room/constants.c" <<'END'
+#include <stdio.h>
+
+#include "panel.h"
+
+#if (PANEL_NO_CHOICE != 10) || (PANEL_READABLE != 0) || (PANEL_SECOND != 2) || (PANEL_LONGEST_LINE != 63) || (PANEL_STACK < 256)
+#error "a constant has another value"
+#endif
+#if (PANEL_VERSION < 10000) || (PANEL_VERSION / 10000 != PANEL_VERSION_MAJOR) || (PANEL_VERSION % 100 != PANEL_VERSION_PATCH)
+#error "the version is another"
+#endif
+
+int main(void)
+{
+    const uint32_t number[3] = {PANEL_VERSION_MAJOR, PANEL_VERSION_MINOR, PANEL_VERSION_PATCH};
+
+    (void)printf("panel %lu.%lu.%lu\n", (unsigned long)number[0], (unsigned long)number[1], (unsigned long)number[2]);
+    return (sizeof(PANEL_LONGEST_LINE) == 8U) ? 0 : 1;
+}
+END
+bash host/panel.sh --version >"$room/wanted"
+# shellcheck disable=SC2086
+gcc -std=c99 $warnings -I target/panel -o "$room/constants" "$room/constants.c" 2>"$room/said" && "$room/constants" >"$room/wrote" 2>>"$room/said"
+judge "the constants of the header are of use in #if, and its version is that of the script" $?
+
+sed -n 's/^Version: /panel /p' target/panel/geolmiwoo-panel.pc >"$room/wrote" 2>"$room/said"
+judge "the file for pkg-config has the version of the header" 0
+
+# ---- the archive
+
+# Whatever the archive has but code and constants of its own; names with $ mark places.
+nm target/panel/libpanel.a | sed -n '/ \$/d; s/^[0-9a-f ]* \([^rt]\) \(.*\)$/\1 \2/p' | sort >"$room/wrote"
 sed -n 's/^pub extern "C" fn \([a-z0-9_]*\).*/T \1/p' crates/panel/src/lib.rt | sort >"$room/wanted"
 : >"$room/said"
 judge "the archive has those entries, keeps no state and needs nothing else" 0
@@ -92,8 +142,8 @@ judge "the code that calls the entries, under the address and undefined behaviou
 
 # shellcheck disable=SC2086
 gcc -std=c99 -O2 $warnings -I target/panel -o "$room/stack" host/tests/panel_stack.c target/panel/libpanel.a
-most=$("$room/stack")
-verdict "no entry takes the 512 bytes of stack that panel.h names" "$([ "${most:-512}" -gt 0 ] && [ "${most:-512}" -lt 512 ] || echo "${most:-no} bytes")"
+most=$("$room/stack") && ended=0 || ended=1
+verdict "no entry takes the bytes of stack that panel.h names" "$([ $ended -eq 0 ] || echo "${most:-no} bytes")"
 
 # ---- the shell
 
@@ -166,6 +216,10 @@ judge_refusal "two logs are one too many" $? "panel-shell: usage: panel-shell [L
 $shell --help >"$room/wrote" 2>"$room/said"
 verdict "--help says how to call the shell" "$(grep -q '^panel-shell \[LOG\]: ' "$room/wrote" || echo "printed: $(head -n 1 "$room/wrote")")"
 
+bash host/panel.sh --version | sed 's/^panel /panel-shell /' >"$room/wanted"
+$shell --version >"$room/wrote" 2>"$room/said"
+judge "--version says the version of the shell" $?
+
 # A guard that is changed is told: the shell with one byte of a guard changed once the first line is heard.
 head -n 1 $shown >"$room/wanted"
 for byte in 'ahead[0]' 'ahead[LENT_GUARD - 1U]' 'behind[0]' 'behind[LENT_GUARD - 1U]'; do
@@ -182,7 +236,7 @@ done
 sed -n '/^```c$/,/^```$/p' docs/C.md | sed '1d;$d' >"$room/mine.c"
 sed -n 's|^/\* prints: \(.*\) \*/$|\1|p' "$room/mine.c" >"$room/wanted"
 [ -s "$room/wanted" ] || echo "what the program of docs/C.md says that it prints" >"$room/wanted"
-command=$(sed -n 's/^    \(cc .* mine\.c .*\)$/\1/p' docs/C.md)
+command=$(sed -n 's/^    \(cc .* mine\.c target.*\)$/\1/p' docs/C.md)
 ln -s "$(pwd -P)/target" "$room/target"
 (cd "$room" && eval "${command:-false}" && ./mine) >"$room/wrote" 2>"$room/said"
 judge "the program in docs/C.md compiles by the command that stands there, and prints what it says" $?
@@ -195,5 +249,23 @@ verdict "the program in docs/C.md has no warning" "$(head -n 1 "$room/wrote")"
 g++ -x c++ $warnings -I target/panel -o "$room/mine" "$room/mine.c" -x none target/panel/libpanel.a 2>"$room/said" &&
     "$room/mine" >"$room/wrote" 2>>"$room/said"
 judge "the same program is good C++, and links" $?
+
+# By the command with pkg-config, with the folder where it was made, and moved, and gone from there.
+command=$(sed -n 's/^    \(cc .* mine\.c \$(.*\)$/\1/p' docs/C.md)
+if command -v pkg-config >/dev/null; then
+    rm -f "$room/mine"
+    (cd "$room" && eval "${command:-false}" && ./mine) >"$room/wrote" 2>"$room/said"
+    judge "the program in docs/C.md compiles by the command with pkg-config that stands there" $?
+    rm "$room/target" "$room/mine" && mkdir "$room/moved" && cp target/panel/{panel.h,libpanel.a,geolmiwoo-panel.pc} "$room/moved/"
+    (cd "$room" && eval "${command/target\/panel/moved}" && ./mine) >"$room/wrote" 2>"$room/said"
+    judge "the folder may be moved" $?
+    wrong=$(PKG_CONFIG_PATH=$room/moved pkg-config --cflags --libs geolmiwoo-panel | sed 's/ *$//' | grep -vxF -e "-I$room/moved $room/moved/libpanel.a")
+    verdict "and pkg-config finds what is in it, and nothing elsewhere" "$wrong"
+    PKG_CONFIG_PATH=$room/moved pkg-config --modversion geolmiwoo-panel | sed 's/^/panel /' >"$room/wrote"
+    bash host/panel.sh --version >"$room/wanted"
+    judge "pkg-config tells the version of the header" 0
+else
+    left_out "the file for pkg-config" "there is no pkg-config"
+fi
 
 exit $status

@@ -1,5 +1,5 @@
-//! Holds the proved implementation, which comes as two C archives, against the
-//! independent one of this package, on random inputs.
+//! Holds the proved implementation, which comes as the C archives of the crates `panel` and
+//! `trial`, against the independent one of this package, on random inputs.
 
 #![deny(unsafe_code)]
 

@@ -131,11 +131,11 @@ mod tests {
     #[test]
     fn a_difference_is_told() {
         let mut wrong = ALL;
-        wrong[3].check = |_| 7;
+        wrong[4].check = |_| 7;
         let told = each(&wrong, "line check", b"02\n", |one| (one.check)(b"02\n"));
         assert_eq!(
             told,
-            Err("DIFFERENCE: table C answers otherwise than Rattle: line check, 7 for 4, input: 02\\x0a".to_string())
+            Err("DIFFERENCE: table C by cc answers otherwise than Rattle: line check, 7 for 4, input: 02\\x0a".to_string())
         );
     }
 }

@@ -1,12 +1,12 @@
 //! One contest: several implementations that do the same over the same inputs, timed in turn.
 
-use std::time::Instant;
+use crate::clock;
 
 /// One implementation in a contest.
 struct Runner<'a> {
     name: &'static str,
     run: Box<dyn FnMut() + 'a>,
-    /// The nanoseconds of each round.
+    /// The nanoseconds of each round, in processor time.
     times: Vec<u64>,
 }
 
@@ -44,17 +44,37 @@ impl<'a> Contest<'a> {
         let count = self.runners.len();
         self.runners.rotate_left(round % count);
         for runner in &mut self.runners {
-            let begun = Instant::now();
+            let begun = clock::now();
             (runner.run)();
-            runner.times.push(begun.elapsed().as_nanos() as u64);
+            runner.times.push(clock::now() - begun);
         }
         self.runners.rotate_right(round % count);
     }
 
+    /// Lets every implementation run once, untimed, each inside the function that is handed over.
+    pub fn once(&mut self, inside: fn(&mut dyn FnMut())) {
+        for runner in &mut self.runners {
+            inside(&mut *runner.run);
+        }
+    }
+
+    /// Lists the names of the implementations.
+    pub fn names(&self) -> Vec<&'static str> {
+        self.runners.iter().map(|runner| runner.name).collect()
+    }
+
     /// Gives the median of each implementation, in nanoseconds for one run over all inputs.
-    pub fn medians(&self) -> Vec<(&'static str, f64)> {
-        let named = |runner: &Runner| (runner.name, median(&runner.times));
-        self.runners.iter().map(named).collect()
+    pub fn medians(&self) -> Vec<f64> {
+        let each = self.runners.iter();
+        each.map(|runner| median(&runner.times)).collect()
+    }
+
+    /// Gives every implementation one round of a known time.
+    #[cfg(test)]
+    pub fn set(&mut self, times: &[u64]) {
+        for (runner, &time) in self.runners.iter_mut().zip(times) {
+            runner.times = vec![time];
+        }
     }
 }
 
@@ -96,9 +116,10 @@ mod tests {
         for round in 0..4 {
             contest.round(round);
         }
-        let names: Vec<&str> = contest.medians().iter().map(|(name, _)| *name).collect();
-        assert_eq!(names, ["a", "b", "c"]);
+        assert_eq!(contest.names(), ["a", "b", "c"]);
         assert!(contest.runners.iter().all(|runner| runner.times.len() == 4));
         assert_eq!(order.borrow().concat(), "abcbcacababc");
+        contest.once(|run| run());
+        assert_eq!(order.borrow().concat(), "abcbcacababcabc");
     }
 }

@@ -1,7 +1,7 @@
 //! All that is measured: the contests of the tables, and their rounds.
 
 use crate::contest::Contest;
-use crate::implementations::{ALL, MACHINES};
+use crate::implementations::{Implementation, ALL, MACHINES};
 use crate::inputs::{Inputs, LONGEST_LINE, SIZES};
 use independent::line::LINE_END;
 use independent::log::MOST;
@@ -24,16 +24,13 @@ pub struct Contests<'a> {
 impl<'a> Contests<'a> {
     /// Puts every implementation into every contest.
     pub fn new(inputs: &'a Inputs) -> Contests<'a> {
-        let mut sizes = vec![answering("1 line", &inputs.single_lines())];
+        let mut sizes = vec![answering(&ALL, "1 line", &inputs.single_lines())];
         for size in SIZES {
-            sizes.push(answering(&format!("{size} bytes"), &inputs.logs_of(size)));
+            let name = format!("{size} bytes");
+            sizes.push(answering(&ALL, &name, &inputs.logs_of(size)));
         }
         Contests {
-            questions: [
-                checking(&inputs.lines()),
-                choosing(inputs),
-                answering("answer to a log (a line)", &inputs.logs()),
-            ],
+            questions: asking(&ALL, inputs),
             steps: stepping(inputs),
             sizes,
         }
@@ -54,15 +51,24 @@ impl<'a> Contests<'a> {
     }
 }
 
+/// The contests of the three questions.
+fn asking<'a>(all: &[Implementation], inputs: &'a Inputs) -> [Contest<'a>; 3] {
+    [
+        checking(all, &inputs.lines()),
+        choosing(all, inputs),
+        answering(all, "answer to a log (a line)", &inputs.logs()),
+    ]
+}
+
 /// Counts bytes.
 fn total(pieces: &[&[u8]]) -> usize {
     pieces.iter().map(|piece| piece.len()).sum()
 }
 
 /// The contest of the line check.
-fn checking<'a>(lines: &[&'a [u8]]) -> Contest<'a> {
+fn checking<'a>(all: &[Implementation], lines: &[&'a [u8]]) -> Contest<'a> {
     let mut contest = Contest::new("line check (a line)", lines.len(), total(lines));
-    for one in ALL {
+    for &one in all {
         let lines = lines.to_vec();
         contest.enter(one.name, move || (one.check_all)(&lines));
     }
@@ -70,11 +76,11 @@ fn checking<'a>(lines: &[&'a [u8]]) -> Contest<'a> {
 }
 
 /// The contest of the chooser.
-fn choosing(inputs: &Inputs) -> Contest<'_> {
+fn choosing<'a>(all: &[Implementation], inputs: &'a Inputs) -> Contest<'a> {
     let pairs = inputs.pairs();
     let bytes = pairs.iter().map(|(one, other)| one.len() + other.len());
     let mut contest = Contest::new("chooser (a pair)", pairs.len(), bytes.sum());
-    for one in ALL {
+    for &one in all {
         let pairs = pairs.clone();
         contest.enter(one.name, move || (one.choose_all)(&pairs));
     }
@@ -82,12 +88,12 @@ fn choosing(inputs: &Inputs) -> Contest<'_> {
 }
 
 /// A contest of answers to logs, in a buffer that has room for every one.
-fn answering<'a>(name: &str, logs: &[&'a [u8]]) -> Contest<'a> {
+fn answering<'a>(all: &[Implementation], name: &str, logs: &[&'a [u8]]) -> Contest<'a> {
     let lines = logs
         .iter()
         .map(|log| log.split_inclusive(|&byte| byte == LINE_END).count());
     let mut contest = Contest::new(name, lines.sum(), total(logs));
-    for one in ALL {
+    for &one in all {
         let logs = logs.to_vec();
         let mut out = vec![0; 3 * MOST];
         contest.enter(one.name, move || (one.answer_all)(&logs, &mut out));
@@ -112,4 +118,66 @@ fn stepping(inputs: &Inputs) -> Vec<Contest<'_>> {
         }
     }
     contests
+}
+
+#[cfg(test)]
+mod tests {
+    use super::*;
+    use crate::implementations::{of, Answers};
+    use std::cell::Cell;
+
+    thread_local! {
+        /// How many units and bytes were handed over.
+        static HANDED: Cell<(usize, usize)> = const { Cell::new((0, 0)) };
+    }
+
+    /// Adds to what was handed over.
+    fn hand(units: usize, bytes: usize) {
+        HANDED.set((HANDED.get().0 + units, HANDED.get().1 + bytes));
+    }
+
+    /// An implementation that only keeps count.
+    struct Tallying;
+
+    impl Answers for Tallying {
+        const NAME: &'static str = "tallying";
+
+        fn check(line: &[u8]) -> u32 {
+            hand(1, line.len());
+            0
+        }
+
+        fn choose(first: &[u8], second: &[u8]) -> u32 {
+            hand(1, first.len() + second.len());
+            0
+        }
+
+        fn answer(log: &[u8], _out: &mut [u8]) -> usize {
+            let lines = log.split_inclusive(|&byte| byte == LINE_END);
+            hand(lines.count(), log.len());
+            0
+        }
+    }
+
+    /// A round, timed or not, hands over just as many lines, pairs and bytes as it is counted for.
+    #[test]
+    fn rounds_are_whole() {
+        let inputs = Inputs::new(1);
+        for mut contest in asking(&[of::<Tallying>()], &inputs) {
+            for run in [
+                |one: &mut Contest| one.round(0),
+                |one: &mut Contest| one.once(|run| run()),
+            ] {
+                HANDED.set((0, 0));
+                run(&mut contest);
+                assert_eq!(
+                    HANDED.get(),
+                    (contest.units, contest.bytes),
+                    "{}",
+                    contest.name
+                );
+            }
+            assert!(contest.units >= 4_096 && contest.bytes >= 60_000);
+        }
+    }
 }

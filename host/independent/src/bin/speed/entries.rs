@@ -1,6 +1,6 @@
-//! The functions for C that are measured, each behind a safe one: the only place of the program
-//! that needs `unsafe`. They read and write between a pointer and the length behind it and
-//! nowhere else.
+//! The functions for C that are measured, each behind a safe one: besides the clock the only place
+//! of the program that needs `unsafe`. They read and write between a pointer and the length behind
+//! it and nowhere else.
 
 #![allow(unsafe_code, reason = "C functions cannot be called without")]
 
@@ -54,25 +54,46 @@ answering!(
     trial_answer_log
 );
 answering!(
-    PlainC,
-    "plain C",
+    PlainByCc,
+    "plain C by cc",
     plain_line_check,
     plain_choose,
     plain_answer_log
 );
 answering!(
-    TableC,
-    "table C",
+    PlainByClang,
+    "plain C by clang",
+    clang_plain_line_check,
+    clang_plain_choose,
+    clang_plain_answer_log
+);
+answering!(
+    TableByCc,
+    "table C by cc",
     table_line_check,
     table_choose,
     table_answer_log
 );
 answering!(
-    BestC,
-    "best scalar C",
+    TableByClang,
+    "table C by clang",
+    clang_table_line_check,
+    clang_table_choose,
+    clang_table_answer_log
+);
+answering!(
+    BestByCc,
+    "best scalar C by cc",
     best_line_check,
     best_choose,
     best_answer_log
+);
+answering!(
+    BestByClang,
+    "best scalar C by clang",
+    clang_best_line_check,
+    clang_best_choose,
+    clang_best_answer_log
 );
 
 extern "C" {

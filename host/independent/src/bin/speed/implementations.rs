@@ -1,7 +1,9 @@
 //! The implementations that are measured, and the loops in which each is: the loop is compiled for
 //! the implementation, so that what is called is called directly.
 
-use crate::entries::{self, BestC, PlainC, Rattle, TableC};
+use crate::entries::{
+    self, BestByCc, BestByClang, PlainByCc, PlainByClang, Rattle, TableByCc, TableByClang,
+};
 use crate::plain::PlainRust;
 use crate::scripts;
 use std::hint::black_box;
@@ -37,7 +39,7 @@ pub struct Implementation {
 }
 
 /// Gives what the measurement needs of an implementation.
-const fn of<A: Answers>() -> Implementation {
+pub const fn of<A: Answers>() -> Implementation {
     Implementation {
         name: A::NAME,
         check: A::check,
@@ -49,13 +51,16 @@ const fn of<A: Answers>() -> Implementation {
     }
 }
 
-/// Every implementation, the proved one first.
-pub const ALL: [Implementation; 5] = [
+/// Every implementation, the proved one first; the C by each of two compilers.
+pub const ALL: [Implementation; 8] = [
     of::<Rattle>(),
-    of::<PlainC>(),
+    of::<PlainByCc>(),
+    of::<PlainByClang>(),
     of::<PlainRust>(),
-    of::<TableC>(),
-    of::<BestC>(),
+    of::<TableByCc>(),
+    of::<TableByClang>(),
+    of::<BestByCc>(),
+    of::<BestByClang>(),
 ];
 
 /// Asks for the number of every line.

@@ -8,6 +8,8 @@ use std::time::Duration;
 pub enum Task {
     /// Measure all implementations.
     Measure(Options),
+    /// Go once over the inputs of this seed, for a counter of instructions that looks on.
+    Once(u64),
     /// Say how the program is called.
     Help,
 }
@@ -17,6 +19,10 @@ pub enum Task {
 pub struct Options {
     pub seed: u64,
     pub quick: bool,
+    /// Whether instructions are counted, and no time taken.
+    pub instructions: bool,
+    /// The page that the figures are written into, where they are not to be printed.
+    pub page: Option<String>,
     /// What the parts of the program were compiled with, where that was told.
     pub compilers: Option<String>,
 }
@@ -37,9 +43,13 @@ pub const HELP: &str = "\
 speed [OPTIONS]: measures the proved implementation against the same in C and in Rust, on the same inputs and in one run
   --seed N          what the inputs are made from (1)
   --quick           takes a second and not half a minute, to see that all is there; its figures mean little
+  --instructions    counts instructions under valgrind, in some seconds, and measures no times
+  --page FILE       writes the times and the instructions into this page, between its marks, and prints nothing;
+                    with --instructions it leaves the times of the page alone
   --compilers TEXT  what the parts were compiled with, told ahead of the figures
+  --once            goes once over all that --instructions counts, and prints nothing
 Before anything is measured, all implementations answer all inputs; the first answer that is another than the proved one is told.
-Status: 0 measured; 1 an implementation answers otherwise; 2 bad usage or no way to write
+Status: 0 measured; 1 an implementation answers otherwise; 2 bad usage, no valgrind where it has to count, or no way to write
 ";
 
 /// Reads the words after the program's name, or says in one line what is wrong with them.
@@ -50,18 +60,31 @@ pub fn parse(words: &[String]) -> Result<Task, String> {
     let mut options = Options {
         seed: 1,
         quick: false,
+        instructions: false,
+        page: None,
         compilers: None,
     };
+    let mut once = false;
     let mut words = words.iter();
     while let Some(name) = words.next() {
         match name.as_str() {
             "--quick" => options.quick = true,
+            "--instructions" => options.instructions = true,
+            "--once" => once = true,
             "--seed" => options.seed = number(name, behind(name, words.next())?)?,
+            "--page" => options.page = Some(behind(name, words.next())?.to_string()),
             "--compilers" => options.compilers = Some(behind(name, words.next())?.to_string()),
             _ => return Err(format!("no such option: {name:?}; --help lists them")),
         }
     }
-    Ok(Task::Measure(options))
+    if options.quick && (options.instructions || options.page.is_some()) {
+        return Err("--quick goes neither with --page nor with --instructions".to_string());
+    }
+    Ok(if once {
+        Task::Once(options.seed)
+    } else {
+        Task::Measure(options)
+    })
 }
 
 /// Gives the word behind an option, which has to be there.
@@ -83,20 +106,26 @@ mod tests {
     /// Every option is taken, and what is not given has its default.
     #[test]
     fn good_words() {
-        let plain = Options {
-            seed: 1,
-            quick: false,
+        let plain = |seed, quick| Options {
+            seed,
+            quick,
+            instructions: false,
+            page: None,
             compilers: None,
         };
-        assert_eq!(parsed(""), Ok(Task::Measure(plain)));
+        assert_eq!(parsed(""), Ok(Task::Measure(plain(1, false))));
+        let quick = plain(7, true);
+        assert!(quick.time() < Duration::from_secs(1));
+        assert_eq!(parsed("--seed 7 --quick"), Ok(Task::Measure(quick)));
         let given = Options {
-            seed: 7,
-            quick: true,
+            instructions: true,
+            page: Some("p".to_string()),
             compilers: Some("cc".to_string()),
+            ..plain(7, false)
         };
-        assert!(given.time() < Duration::from_secs(1));
-        let line = "--compilers cc --seed 7 --quick";
+        let line = "--compilers cc --instructions --seed 7 --page p";
         assert_eq!(parsed(line), Ok(Task::Measure(given)));
+        assert_eq!(parsed("--once --seed 7"), Ok(Task::Once(7)));
         assert_eq!(parsed("--seed x --help"), Ok(Task::Help));
     }
 
@@ -110,6 +139,9 @@ mod tests {
             "--slow",
             "5",
             "--compilers",
+            "--page",
+            "--quick --page p",
+            "--instructions --quick",
         ] {
             let told = parsed(line).unwrap_err();
             assert!(!told.is_empty() && !told.contains('\n'), "{line}: {told}");

@@ -4,11 +4,8 @@
 
 # Makes $room/tree anew.
 plant() {
-    local file
-    rm -rf "$room/tree"
-    for file in "$command" $planted; do
-        mkdir -p "$room/tree/$(dirname "$file")" && cp "$file" "$room/tree/$file" || exit 2
-    done
+    # shellcheck disable=SC2086
+    rm -rf "$room/tree" && mkdir "$room/tree" && cp --parents "$command" host/command.sh $planted "$room/tree" || exit 2
 }
 
 # Runs the command of $room/tree with these words.

@@ -40,7 +40,7 @@ END {
 
 # Gives up with one line that names the layout and what is wrong with it.
 function refuse(what) {
-    print "host/pictures.sh: " layout ": " what >"/dev/stderr"
+    print command ": " layout ": " what >"/dev/stderr"
     refused = 1
     exit 2
 }

@@ -1,8 +1,9 @@
-# The rows of one machine as plain lines, with tabs between their fields, with terms.awk, asks.awk and tables.awk, which is told the files:
+# The rows of one machine as plain lines, with tabs between their fields, with terms.awk, asks.awk, tables.awk and words.awk, which are told the files:
 #     state  P2  waiting for response  TFP1 or TFP2
 #     row    R1  P0  P2  user starts: stores the call, sends SETUP REQUEST
 BEGIN {
     read_machine()
+    hold_words()
     for (i = 1; i <= clauses["stateNumber"]; i++) tell_state(tail_of(clause_of["stateNumber", i]))
     for (i = 1; i <= rows; i++) tell_row(row_at[i])
 }

@@ -26,13 +26,15 @@ function check_plain(path, name, one, other) {
     if (!(one in is_clause) && !(other in is_clause)) refuse(path, name ": cannot read it, since it is defined in another way")
 }
 
-# Reads what each cause, fact, message, reason, store and state is called.
+# Reads what each cause, fact, message, reason, store and state is called, and in which order that is listed.
 function read_words(line, part) {
     while ((getline line <words) > 0) {
         if (line ~ /^(#|$)/) continue
         split(line, part, " ")
         sub(/^[^ ]+ +[^ ]+ +/, "", line)
         word[part[1], part[2]] = line
+        word_kind[++words_listed] = part[1]
+        word_name[words_listed] = part[2]
     }
     close(words)
 }

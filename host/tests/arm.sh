@@ -157,6 +157,16 @@ try() {
     answer "$1" /dev/null host/tests/panel_stack.c >"$room/wrote" 2>"$room/said" && ended=0 || ended=$?
     verdict "no entry takes the bytes of stack that panel.h names, $1" "$([ $ended -eq 0 ] || echo "status $ended: $(cat "$room/wrote" "$room/said")")"
     [ "${1#arm}${1#thumb}" = "$1$1" ] || try_narrow "$1"
+    [ "${1#thumb}" = "$1" ] || try_page "$1"
+}
+
+# The command of docs/C.md by which a firmware of a target compiles the receive loop.
+try_page() {
+    local command
+    command=$(sed -n 's/^    \(arm-none-eabi-gcc .*\)$/\1/p' docs/C.md)
+    mkdir "$room/page" && ln -s "$PWD/host" "$PWD/target" "$room/page/"
+    (cd "$room/page" && eval "${command:-false}") >"$room/said" 2>&1 && ended=0 || ended=1
+    verdict "the command in docs/C.md compiles the receive loop, $1" "$([ $ended -eq 0 ] && [ ! -s "$room/said" ] && [ -f "$room/page/receive.o" ] || echo "it does not: $(head -n 1 "$room/said")")"
 }
 
 # The cases of a target with 32 bits, with a header that has size_t for lengths: it compiles, and the answers are wrong.

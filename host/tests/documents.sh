@@ -65,7 +65,7 @@ wrong=$(wc -l <README.md | awk '$1 > 150')
 verdict "README.md has at most 150 lines" "$wrong"
 
 # Where git knows of no tree, all files count.
-wrong=$({ git ls-files 2>/dev/null || find . -maxdepth 1 -type f -printf '%f\n'; } | grep -v / | grep -vxE 'README\.md|crates\.txt|\.gitignore' | paste -s -d ' ')
+wrong=$({ git ls-files 2>/dev/null || find . -maxdepth 1 -type f -printf '%f\n'; } | grep -v / | grep -vxE 'README\.md|crates\.txt|\.gitignore|\.alone' | paste -s -d ' ')
 verdict "the root has README.md and crates.txt, and folders" "$wrong"
 
 wrong=''
@@ -132,8 +132,8 @@ cited() {
 # Prints those of them that are not among the names of a list, one a line.
 unknown() { awk -F : 'NR == FNR { known[$0]; next } !($2 in known)' "$1" - | paste -s -d ' '; }
 
-wrong=$(cited | unknown <(grep -rhoaE '[A-Za-z][A-Za-z0-9_-]*' crates .ci host/*.sh && find crates host crates.txt -printf '%f\n'))
-verdict "every name that README.md and docs/ cite stands in a crate or in a script" "$wrong"
+wrong=$(cited | unknown <(grep -rhoaE '[A-Za-z][A-Za-z0-9_-]*' crates .ci host/*.sh host/include && find crates host crates.txt -printf '%f\n'))
+verdict "every name that README.md and docs/ cite stands in a crate, in a script or in a header" "$wrong"
 
 # The names of docs/DRILL.md are words of its scripts.
 wrong=$(cited | grep -v '^docs/DRILL.md:' | grep -E ':[a-z0-9]+(-[A-Za-z0-9]+)+$' |

@@ -24,7 +24,7 @@ printf '%s\n' "${drill[@]}" >"$room/wanted"
 judge "a program that nothing has changed for does not wait for rt" $ended
 
 cp target/bin/drill.state "$room/wanted"
-echo another >target/bin/drill.state
+sed -i 's/ .*/ another/' target/bin/drill.state
 bash host/program.sh --command drill >/dev/null 2>"$room/said" </dev/null
 ended=$?
 cp target/bin/drill.state "$room/wrote"

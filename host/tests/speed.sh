@@ -235,12 +235,12 @@ judge_refusal "an archive of a program is refused" $? 'archive: no library lines
 # ---- C that does more, or answers otherwise
 
 # So many thousand instructions more for each question; the answer of plain C and of table C asks for the check of each line.
-slow='| plain C by cc | 4 | 0 | 4 |
-| plain C by clang | 0 | 16 | 0 |
-| table C by cc | 0 | 0 | 4 |
-| table C by clang | 8 | 8 | 8 |
-| best scalar C by cc | 4 | 0 | 0 |
-| best scalar C by clang | 0 | 8 | 8 |'
+slow='| plain C by cc | 1 | 0 | 1 |
+| plain C by clang | 0 | 4 | 0 |
+| table C by cc | 0 | 0 | 1 |
+| table C by clang | 2 | 2 | 2 |
+| best scalar C by cc | 1 | 0 | 0 |
+| best scalar C by clang | 0 | 2 | 2 |'
 cp target/archives/libbaseline.a "$room/baseline.a"
 cp target/independent/speed/speed "$room/speed"
 cp -r host/speed "$room/slip"
@@ -248,18 +248,18 @@ cp host/tests/speed_slow.h "$room/slip/"
 while read -r name words; do
     sed -i "/^[a-z0-9_]* $name(/{n;s/^{\$/{ SLOW($words);/}" "$room/slip/${name%%_*}.c"
 done <<'END'
-plain_line_check 4, 0
-plain_choose 0, 16
-table_line_check 0, 8
-table_choose 0, 8
-best_line_check 4, 0
-best_choose 0, 8
+plain_line_check 1, 0
+plain_choose 0, 4
+table_line_check 0, 2
+table_choose 0, 2
+best_line_check 1, 0
+best_choose 0, 2
 END
 sed -i '1i #include "speed_slow.h"' "$room"/slip/*.c
 sed -i '/^uint32_t table_line_check(/{n;s/$/ SLIP(NO_DIGIT);/}
-    s/^size_t table_answer_log(/static uint32_t asked(const uint8_t *line, size_t length) { SLOW(4, 0); return table_line_check(line, length); }\n&/
+    s/^size_t table_answer_log(/static uint32_t asked(const uint8_t *line, size_t length) { SLOW(1, 0); return table_line_check(line, length); }\n&/
     s/answer_put(log, log_len, out, table_line_check)/answer_put(log, log_len, out, asked)/' "$room/slip/table.c"
-sed -i 's/^        size_t length = readable(/        SLOW(0, 8);\n&/' "$room/slip/best.c"
+sed -i 's/^        size_t length = readable(/        SLOW(0, 2);\n&/' "$room/slip/best.c"
 
 # Prints which figures of the table whose first line is the second word did not rise as they should from a file to the last run.
 unmoved() { awk "${@:3}" -f host/tests/speed_slow.awk <(echo "$slow") <(rows "$1" "$2") <(rows "$room/wrote" "$2") | head -n 3; }
@@ -268,7 +268,7 @@ unmoved() { awk "${@:3}" -f host/tests/speed_slow.awk <(echo "$slow") <(rows "$1
 for try in 1 2 3 4 5; do
     [ $try -eq 1 ] || "$room/speed" --quick --seed 7 >"$room/times"
     BASELINE=$room/slip run --quick --seed 7
-    wrong=$(wrongs 0; unmoved "$room/times" "$asked" -v wide=2 -v by=0.5 -v still=2)
+    wrong=$(wrongs 0; unmoved "$room/times" "$asked" -v wide=2 -v by=0.5 -v still=0.5)
     [ -n "$wrong" ] || break
 done
 verdict "C that does more takes as much longer, and nothing else does" "$wrong"

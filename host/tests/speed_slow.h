@@ -6,15 +6,27 @@
 #include <stdlib.h>
 #include <string.h>
 
-/* A thousand instructions that do nothing. */
-#define THOUSAND() __asm__ volatile(".rept 1000\n\tnop\n\t.endr")
+/* An instruction that waits for the one ahead of it, so that it takes as long whatever else the processor does. */
+#ifdef __x86_64__
+#define WAIT "neg %0"
+#else
+#define WAIT "neg %0, %0"
+#endif
+
+/* So many thousand of them. */
+static inline void slow(unsigned thousands)
+{
+    for (unsigned long waits = 1UL; thousands > 0U; thousands--) {
+        __asm__ volatile(".rept 1000\n\t" WAIT "\n\t.endr" : "+r"(waits) : : "cc");
+    }
+}
 
 /* So many thousand, by cc and by the kit's clang; where it compiles them the entries have other names. */
 #ifdef plain_line_check
-#define SLOW(by_cc, by_clang) for (unsigned left = (by_clang); left > 0U; left--) THOUSAND()
+#define SLOW(by_cc, by_clang) slow(by_clang)
 #define COMPILER "clang"
 #else
-#define SLOW(by_cc, by_clang) for (unsigned left = (by_cc); left > 0U; left--) THOUSAND()
+#define SLOW(by_cc, by_clang) slow(by_cc)
 #define COMPILER "cc"
 #endif
 

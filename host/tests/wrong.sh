@@ -23,6 +23,15 @@ fi
 run . call/none
 judge_refusal "an edit without an input is refused" $? "wrong: host/wrong.txt has no input for call/none"
 
+run . --promised
+ended=$?
+all=$(($(grep -vc '^#' host/wrong.txt) / 2))
+echo "the right program tells what is promised on $all of $all inputs" >"$room/wanted"
+judge "the right program tells what is promised, on every input" $ended
+
+run . --promised frame/reason_5_taken
+judge_refusal "with --promised nothing is named" $? "wrong: --promised takes no further word"
+
 run . call/what_ran_out_runs_on frame/reason_5_taken
 ended=$?
 cat >"$room/wanted" <<'WANTED'
@@ -42,6 +51,16 @@ for change in 's/^\(frame\/reason_5_taken\): 0 promised/\1: 2 promised/' 's/^\(f
     grep -q '^frame/reason_5_taken: NOT SO: ' "$room/wrote" || wrong="$wrong $(head -n 1 "$room/wrote")"
     verdict "noticed: $change" "$wrong"
 done
+
+# Another promise, of a body and of a script, is noticed where the right program runs alone.
+sed -E 's,^((frame/reason_5_taken|call/what_ran_out_runs_on):) [^ ]*,\1 other,' host/wrong.txt >"$room/tree/host/wrong.txt"
+run "$room/tree" --promised
+ended=$?
+wrong=''
+[ $ended -eq 1 ] || wrong="status $ended"
+[ "$(grep -c ': NOT SO: other promised on ' "$room/wrote")" -eq 2 ] || wrong="$wrong $(head -n 2 "$room/wrote")"
+[ "$(tail -n 1 "$room/wrote")" = "the right program tells what is promised on $((all - 2)) of $all inputs" ] || wrong="$wrong $(tail -n 1 "$room/wrote")"
+verdict "noticed by the right program alone: two promises that are others" "$wrong"
 
 # Cases: a wrong program that tells what it was to tell, and then does what the second word says, is noticed by how it ended, the first word.
 while read -r how more; do

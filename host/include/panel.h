@@ -41,11 +41,12 @@ extern "C" {
 
 /* ---- the version of this header and its archive */
 
-/* The first number is another where a program may have to be changed, the second where there is more than before. */
+/* The first number is another where a program may have to be changed, the second where there is more than before, or where a line may get
+ * another number: from 1.1.0 on a PCK-ID other than 0 has 0001 in its top four bits, where it had 0011. */
 #define PANEL_VERSION_MAJOR UINT32_C(1)
-#define PANEL_VERSION_MINOR UINT32_C(0)
+#define PANEL_VERSION_MINOR UINT32_C(1)
 #define PANEL_VERSION_PATCH UINT32_C(0)
-/* All three as one number that grows: 10000 for 1.0.0. */
+/* All three as one number that grows: 10100 for 1.1.0. */
 #define PANEL_VERSION \
     ((PANEL_VERSION_MAJOR * UINT32_C(10000)) + (PANEL_VERSION_MINOR * UINT32_C(100)) + PANEL_VERSION_PATCH)
 

@@ -84,12 +84,12 @@ static inline uint64_t long_fault(const uint8_t *field)
     return strange(word) | (uint64_t)(word == ZERO_8);
 }
 
-/* 0 exactly if a PCK-ID is of digits, and either 0 or from 30000000 to 3fffffff. */
+/* 0 exactly if a PCK-ID is of digits, and either 0 or from 10000000 to 1fffffff. */
 static inline uint64_t pck_fault(const uint8_t *field)
 {
     const uint64_t word = eight(field);
 
-    return strange(word) | ((uint64_t)(word != ZERO_8) & (uint64_t)(field[0] != (uint8_t)'3'));
+    return strange(word) | ((uint64_t)(word != ZERO_8) & (uint64_t)(field[0] != (uint8_t)'1'));
 }
 
 /* 0 exactly if kind, identifier and the first user or group are of digits, and the last two not 0. */

@@ -117,10 +117,10 @@ static inline bool frame_group_type(uint32_t type)
     return (type >= 1U) && (type <= 3U);
 }
 
-/* Whether a PCK-ID says that there is no security, or has 0011 in its top four bits. */
+/* Whether a PCK-ID says that there is no security, or has 0001 in its top four bits. */
 static inline bool frame_pck_id(uint32_t pck_id)
 {
-    return (pck_id == 0U) || ((pck_id >> 28) == 3U);
+    return (pck_id == 0U) || ((pck_id >> 28) == 1U);
 }
 
 /* Whether the fields of a private call are in range. */

@@ -148,7 +148,7 @@ mkdir "$room/header" && sed 's/uint64_t \([a-z]*_len\)/size_t \1/g' host/include
 # The cases of one target.
 try() {
     same_answer "the cases of the entries" "$1" /dev/null host/tests/panel_entries.c
-    verdict "and they are as many as here, and pass, $1" "$(grep -v '^ok ' "$room/wrote"; [ "$(grep -c '^ok ' "$room/wrote")" -ge 37 ] || echo few)"
+    verdict "and they are as many as here, and pass, $1" "$(grep -v '^ok ' "$room/wrote"; [ "$(grep -c '^ok ' "$room/wrote")" -ge 40 ] || echo few)"
     same_answer "the program in docs/C.md, without a warning" "$1" /dev/null "$room/mine.c"
     same_answer "the panel shell" "$1" samples/announcements.log host/shell/*.c
     same_answer "the panel shell on a thousand lines" "$1" "$room/many" host/shell/*.c

@@ -1,7 +1,7 @@
 -- The marked cases hold. Assumes nothing.
 use mathlib.Core.Path.{_≡_, refl, sym, ap, _∙_, subst}
 use mathlib.Core.List.{List, [], _∷_}
-use mathlib.Core.Bool.{true, false, not}
+use mathlib.Core.Bool.{true, false, not, true≢false}
 use Prim.Native.Nat.{ℕ, _<_}
 use native.Mathlib.Omega.{arith}
 use lib.ListN.{length, set, replicate, length-replicate}
@@ -18,8 +18,9 @@ use Rattle.writer.specs.Writing.{writeNumber}
 use Rattle.call.specs.Settings.{noCounters, settingsGood}
 use Rattle.call.specs.declared.PrivateTimer.{PrivateTimer}
 use Rattle.call.specs.declared.PrivateAction.{PrivateAction}
+use Rattle.call.specs.declared.Event.{Event}
 use Rattle.private_record.specs.Phases.{has, runningOf, phaseIn}
-use Rattle.private_record.specs.Formed.{wellFormed}
+use Rattle.private_record.specs.Formed.{wellFormed, clearedRecord}
 use Rattle.private_record.specs.declared.states.State.{State}
 use Rattle.private_record.specs.declared.states.Phase.{Phase}
 use Rattle.private_record.specs.declared.states.Timers.{Timers}
@@ -40,13 +41,16 @@ use Rattle.group_call.specs.Hearing.{hears}
 use Rattle.group_call.specs.declared.Stepped as GroupStepped
 use Rattle.group_call.proofs.Merging.{ongoing-is, better-joined}
 use Rattle.chooser.specs.Choice.{choiceOf, choiceNumber}
-use Rattle.demands.specs.Machines.{privateAnswer, privateMachine, groupMachine}
-use Rattle.demands.specs.MarkedCases.{spoilt, writes, expiryDiscarded, Holds, reading-holds, spoilt-holds, writing-holds, ringing, setup, table, AllHold}
-use Rattle.demands.specs.Played.{crewWith, crew, ours, theirs, cfp1At, stored, does, expires}
+use Rattle.demands.specs.Machines.{Machine, privateAnswer, privateMachine, groupMachine}
+use Rattle.demands.specs.ExactlyWhen.{ExactlyWhen, StepExactlyWhen}
+use Rattle.demands.specs.MarkedCases.{spoilt, writes, expiryDiscarded, Holds, reading-holds, spoilt-holds, writing-holds, ringing, table, AllHold}
+use Rattle.demands.specs.Played.{crewWith, crew, ours, theirs, cfp1At, stored, hearsSigned, request, does, expires}
 use Rattle.demands.specs.GroupPlayed.{mine, heard, goesOn, announces}
-use Rattle.demands.specs.MarkedCases.{steps, step-holds, last-expiry-holds, second-discarded-holds, expiry-discarded-holds}
+use Rattle.demands.specs.MarkedCases.{steps, hearing, step-holds, hearing-holds, last-expiry-holds, second-discarded-holds, expiry-discarded-holds}
 use Rattle.demands.specs.MarkedCases.{merges, lowerWins, typeBeats, merges-holds, lower-wins-holds, type-beats-holds, choosing-holds}
 use Rattle.demands.proofs.Tables.{below, at}
+use Rattle.demands.proofs.ExactlyWhen.{step-exactly-when}
+use Rattle.demands.proofs.GroupMachine.{group-step-exactly-when}
 
 -- a byte in place of any digit, by the test at each place
 everywhere : {l : List ℕ} {byte n : ℕ} → below (count l) (λ (k : ℕ). eqb (lineNumber (set l k byte)) n) ≡ true → Holds (spoilt l byte n)
@@ -114,8 +118,26 @@ rank-wins {type} {other} h =
     let rank : rankOf (a .«call_type») < rankOf (b .«call_type») = rw (x, y) h in
     let is = by-rank a b rank in (is, asymmetric a b is))
 
+-- a message with a field out of range is refused with 5, from every record: case L
+five-heard : (M : Machine) {m : Message} {media : Media} → StepExactlyWhen M → inRange m media ≡ false → Holds (hearing M m media 5)
+unfolding ExactlyWhen
+five-heard M {m} {media} exact out-of-range =
+    hearing-holds (λ s p v out g w.
+    exact s p (record { event = Event.Message m; media = media; verdicts = v }) out .exactly .1 .1 .0 .1
+    (((tt, λ h. true≢false (sym g ∙ h)), λ h. true≢false (sym w ∙ h)), out-of-range))
+
+-- case L, for a record of the private call machine
+private-L : Holds (steps privateMachine crew clearedRecord (hearsSigned (request 0 0x1000_0000)) (replicate 31 0) 0 20)
+unfolding stepOf settingsGood wellFormed rowIn carryOut startedOf stoppedOf runningAfter countersAfter inRange partiesGood setupGood writeNumber lineOf frameInHex allInHex inHex
+private-L = step-holds refl refl
+
+-- case L, for a record of the group call machine
+group-L : Holds (steps groupMachine crew GroupFormed.clearedRecord (hearsSigned (request 0 0x1000_0000)) [] 0 0)
+unfolding GroupStep.stepOf settingsGood GroupFormed.wellFormed GroupRows.rowIn GroupCarried.carryOut GroupCarried.stoppedOf GroupCarried.runningAfter inRange partiesGood setupGood
+group-L = step-holds refl refl
+
 -- every marked case holds
 pub marked-cases : AllHold table
-unfolding below AllHold table ringing setup readLine refusalOf messageAt mediaAt numbersAt numberAt digitsOf allDigits inRange partiesGood setupGood groupCallGood acceptanceGood writeNumber lineOf frameInHex allInHex inHex choiceNumber choiceOf
+unfolding below AllHold table ringing readLine refusalOf messageAt mediaAt numbersAt numberAt digitsOf allDigits inRange partiesGood setupGood groupCallGood acceptanceGood writeNumber lineOf frameInHex allInHex inHex choiceNumber choiceOf
 marked-cases =
-    (reading-holds refl, (everywhere refl, (reading-holds refl, (reading-holds refl, (last-expiry-holds last-expiry, (step-E, (second-discarded-holds (λ s p media media' v v' out out' e. answers (second-accept s p media media' v v' out out' e)), (step-F, (quiet (λ w. refl), (step-G, (better-joins (omega arith), (step-H, (lower-wins (omega arith), (choosing-holds refl refl, (choosing-holds refl refl, (rank-wins (omega arith), (choosing-holds refl refl, (by-length refl, (by-length refl, (reading-holds refl, (by-length refl, (reading-holds refl, (by-length refl, tt)))))))))))))))))))))))
+    (reading-holds refl, (everywhere refl, (reading-holds refl, (reading-holds refl, (last-expiry-holds last-expiry, (step-E, (second-discarded-holds (λ s p media media' v v' out out' e. answers (second-accept s p media media' v v' out out' e)), (step-F, (quiet (λ w. refl), (step-G, (better-joins (omega arith), (step-H, (lower-wins (omega arith), (choosing-holds refl refl, (choosing-holds refl refl, (rank-wins (omega arith), (choosing-holds refl refl, (by-length refl, (by-length refl, (reading-holds refl, (by-length refl, (private-L, (group-L, (reading-holds refl, (by-length refl, (five-heard privateMachine step-exactly-when refl, (five-heard groupMachine group-step-exactly-when refl, tt)))))))))))))))))))))))))))

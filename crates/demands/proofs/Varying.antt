@@ -53,7 +53,7 @@ plays-differ M look place e h m n row next byte = (
 pub private-varies : Varies privateMachine
 unfolding plays
 private-varies =
-    let from = plays-come-out .1 .1 .1 .1 .1 .1 .1 in (
+    let from = plays-come-out .1 .1 .1 .1 .1 .1 .1 .1 in (
       (
         crew,
         lent,

@@ -10,7 +10,7 @@ use Rattle.frame.specs.Frame.{inRange}
 use Rattle.frame.specs.declared.Media.{Media}
 use Rattle.frame.specs.declared.Message.{Message}
 use Rattle.frame.specs.declared.GroupCall.{GroupCall}
-use Rattle.frame.specs.declared.Message.the-variants.{SetupRequest, Ringing, Announcement}
+use Rattle.frame.specs.declared.Message.the-variants.{Ringing, Announcement}
 use Rattle.reader.specs.Line.{count, lineNumber, readLine, reading, refusal}
 use Rattle.reader.specs.declared.Reading.{Reading}
 use Rattle.writer.specs.Writing.{writeNumber}
@@ -19,8 +19,9 @@ use Rattle.call.specs.declared.Settings.{Settings}
 use Rattle.call.specs.declared.Verdicts.{Verdicts}
 use Rattle.call.specs.declared.PrivateTimer.{PrivateTimer}
 use Rattle.call.specs.declared.PrivateAction.{PrivateAction}
+use Rattle.call.specs.declared.Event.{Event}
 use Rattle.call.specs.declared.Input.{Input}
-use Rattle.private_record.specs.Formed.{wellFormed}
+use Rattle.private_record.specs.Formed.{wellFormed, clearedRecord}
 use Rattle.private_record.specs.declared.states.State.{State}
 use Rattle.private_record.specs.declared.states.Phase.{Phase}
 use Rattle.private_record.specs.declared.states.PrivateRecord.{PrivateRecord}
@@ -35,7 +36,7 @@ use Rattle.group_call.specs.Step as GroupStep
 use Rattle.group_call.specs.Hearing as Hearing
 use Rattle.demands.specs.Text.{bytes}
 use Rattle.demands.specs.Machines.{Machine, IsDiscarded, privateMachine, groupMachine}
-use Rattle.demands.specs.Played.{crewWith, crew, five, ours, theirs, cfp1At, stored, does, expires}
+use Rattle.demands.specs.Played.{crewWith, crew, six, ours, theirs, cfp1At, stored, hearsSigned, request, does, expires}
 use Rattle.demands.specs.GroupPlayed.{mine, heard, goesOn, announces}
 
 -- what a case says
@@ -48,6 +49,8 @@ pub data Case : Type 1 where
   writes : Message → Media → ℕ → ℕ → Case
   -- a step of a call machine gives this number and this row
   steps : (M : Machine) → Settings → M .Stored → Input → List ℕ → ℕ → ℕ → Case
+  -- from every well-formed record of a call machine, hearing this message with this media gives this number
+  hearing : Machine → Message → Media → ℕ → Case
   -- from every well-formed record with this CFP1, at this limit of it, the expiry of TFP1 meets this row
   lastExpiry : ℕ → ℕ → ℕ → Case
   -- the user's accept meets this row, and the user accepts again: the second accept is discarded
@@ -72,6 +75,10 @@ pub data Holds : Case → Type 1 where
       → Holds (writes m media room n)
   step-holds : {M : Machine} {s : Settings} {p : M .Stored} {i : Input} {out : List ℕ} {n row : ℕ} → M .step s p i out .number ≡ n
       → M .step s p i out .row ≡ row → Holds (steps M s p i out n row)
+  hearing-holds : {M : Machine} {m : Message} {media : Media} {n : ℕ}
+      → ((s : Settings) (p : M .Stored) (v : Verdicts) (out : List ℕ) → settingsGood s ≡ true → M .wellFormed s p ≡ true
+      → M .step s p (record { event = Event.Message m; media = media; verdicts = v }) out .number ≡ n)
+      → Holds (hearing M m media n)
   last-expiry-holds : {counter limit row : ℕ}
       → ((s : Settings) (p : PrivateRecord) (media : Media) (v : Verdicts) (out : List ℕ) → settingsGood s ≡ true → wellFormed s p ≡ true
       → p .counters .cfp1 ≡ counter → s .limits .cfp1 ≡ limit → stepOf s p (expiry PrivateTimer.Tfp1 media v) out .row ≡ row)
@@ -103,13 +110,7 @@ pub data Holds : Case → Type 1 where
 unfoldable pub ringing : Message
 ringing = Ringing (record { identifier = 0x1234; caller = 7; callee = 9 })
 
--- a setup request of that call, automatic, of type 4, by its PCK-ID
-unfoldable pub setup : ℕ → Message
-setup k =
-    SetupRequest (record { identifier = 0x1234; caller = 7; callee = 9 })
-    (record { commencement = 0; «call_type» = 4; «pck_id» = k })
-
--- the cases by their letters; E to H for every record and I and J for every two calls; each is also computed for one, which shows that there are such
+-- the cases by their letters; E to H, and the refusals of L, for every record and I and J for every two calls; E to J are also computed for one, which shows that there are such
 unfoldable pub table : List (String × Case)
 table =
     ("A", reads (bytes "0212340000000700000009\n") (reading ringing noMedia))
@@ -131,10 +132,14 @@ table =
     ∷ ("J", chooses (bytes "0800100000000303001e0000000500000007000003e8000003e80000000700\n") (bytes "0800110000000302001e0000000500000007000007d0000007d00000000700\n") 2)
     ∷ ("K", writes ringing noMedia 22 6)
     ∷ ("K", writes ringing noMedia 23 0)
-    ∷ ("L", reads (bytes "011234000000070000000900040000000530000000\n") (reading (setup 0x3000_0000) five))
-    ∷ ("L", writes (setup 0x3000_0000) five 43 0)
-    ∷ ("L", reads (bytes "011234000000070000000900040000000540000000\n") (refusal 5))
-    ∷ ("L", writes (setup 0x4000_0000) five 43 5)
+    ∷ ("L", reads (bytes "011235000000090000000700040000000610000000\n") (reading (request 0 0x1000_0000) six))
+    ∷ ("L", writes (request 0 0x1000_0000) six 43 0)
+    ∷ ("L", steps privateMachine crew clearedRecord (hearsSigned (request 0 0x1000_0000)) (replicate 31 0) 0 20)
+    ∷ ("L", steps groupMachine crew GroupFormed.clearedRecord (hearsSigned (request 0 0x1000_0000)) [] 0 0)
+    ∷ ("L", reads (bytes "011235000000090000000700040000000630000000\n") (refusal 5))
+    ∷ ("L", writes (request 0 0x3000_0000) six 43 5)
+    ∷ ("L", hearing privateMachine (request 0 0x3000_0000) six 5)
+    ∷ ("L", hearing groupMachine (request 0 0x3000_0000) six 5)
     ∷ []
 
 -- every case of a table holds

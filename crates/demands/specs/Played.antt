@@ -43,17 +43,21 @@ five = record { number = 5 }
 abbrev pub six : Media
 six = record { number = 6 }
 
--- a PCK-ID that is not 0
+-- a PCK-ID of a private call's key
 abbrev pub secure : ℕ
-secure = 0x3000_0001
+secure = 0x1000_0001
 
--- a call that user 7 makes to user 9
-abbrev pub outgoing : ℕ → PrivateCall
-outgoing n = record { parties = record { identifier = n; caller = 7; callee = 9 }; commencement = 0; media = five; «pck_id» = 0 }
+-- the same with 0011 on top, the purpose that was asked for before
+abbrev pub outdated : ℕ
+outdated = 0x3000_0001
 
--- call 1234 (hexadecimal) from 7 to 9
+-- a call that user 7 makes to user 9, by its identifier and PCK-ID
+abbrev pub outgoing : ℕ → ℕ → PrivateCall
+outgoing n pck = record { parties = record { identifier = n; caller = 7; callee = 9 }; commencement = 0; media = five; «pck_id» = pck }
+
+-- call 1234 (hexadecimal) from 7 to 9, no security
 abbrev pub ours : PrivateCall
-ours = outgoing 0x1234
+ours = outgoing 0x1234 0
 
 -- the same with media 6 in the place of 5
 abbrev pub answered : PrivateCall
@@ -114,11 +118,11 @@ does a = input (Event.Action (Action.Private a)) true false
 abbrev pub acceptsSigned : Input
 acceptsSigned = input (Event.Action (Action.Private PrivateAction.Accept)) true true
 
--- the user starts a call to 9, automatic, media 5, no security
-abbrev pub starts : ℕ → Input
-starts n =
+-- the user starts a call to 9, automatic, media 5, by its identifier and PCK-ID
+abbrev pub starts : ℕ → ℕ → Input
+starts n pck =
     record {
-      event = Event.Action (Action.Private (PrivateAction.Start (record { identifier = n; callee = 9; commencement = 0; «pck_id» = 0 })));
+      event = Event.Action (Action.Private (PrivateAction.Start (record { identifier = n; callee = 9; commencement = 0; «pck_id» = pck })));
       media = five;
       verdicts = record { media = false; signature = false };
     }

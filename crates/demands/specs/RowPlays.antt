@@ -44,7 +44,8 @@ AllComeOut M (x ∷ xs) = ComesOut M x × AllComeOut M xs
 -- of the private call machine, in the order of the rows
 unfoldable pub plays : List (Play privateMachine)
 plays =
-    play 1 crew (stored Phase.P1 noCounters ours) (starts 0x1235) tfp7 tfp1 (stored Phase.P2Tfp1 (cfp1At 1) (outgoing 0x1235)) "011235000000070000000900040000000500000000\n"
+    play 1 crew (stored Phase.P1 noCounters ours) (starts 0x1235 0) tfp7 tfp1 (stored Phase.P2Tfp1 (cfp1At 1) (outgoing 0x1235 0)) "011235000000070000000900040000000500000000\n"
+    ∷ play 1 crew clearedRecord (starts 0x1235 secure) noTimer tfp1 (stored Phase.P2Tfp1 (cfp1At 1) (outgoing 0x1235 secure)) "011235000000070000000900040000000510000001\n"
     ∷ play 2 crew (stored Phase.P2Tfp1 (cfp1At 1) ours) (expires PrivateTimer.Tfp1) noTimer tfp1 (stored Phase.P2Tfp1 (cfp1At 2) ours) "011234000000070000000900040000000500000000\n"
     ∷ play 3 crew (stored Phase.P2Tfp1 (cfp1At 3) ours) (expires PrivateTimer.Tfp1) noTimer tfp7 (stored Phase.P1 noCounters ours) ""
     ∷ play 4 crew (stored Phase.P2Tfp1 (cfp1At 2) ours) (hears (Ringing (ours .parties))) tfp1 tfp2 (stored Phase.P2Tfp2 noCounters ours) ""
@@ -89,7 +90,7 @@ plays =
 
 -- from the cleared record: the user starts call 1234 (hexadecimal), hears ACCEPT with media 6, and ends the call
 abbrev pub run : List (Input × List ℕ)
-run = (starts 0x1234, lent) ∷ (hears (Accept (ours .parties)), lent) ∷ (does PrivateAction.End, lent) ∷ []
+run = (starts 0x1234 0, lent) ∷ (hears (Accept (ours .parties)), lent) ∷ (does PrivateAction.End, lent) ∷ []
 
 -- what is sent on the way
 abbrev pub runLines : List (List ℕ)

@@ -23,7 +23,7 @@ use Rattle.private_record.specs.declared.states.Timers.{Timers}
 use Rattle.private_record.specs.declared.states.Phase.{Phase}
 use Rattle.private_record.specs.declared.states.PrivateRecord.{PrivateRecord}
 use Rattle.demands.specs.Machines.{Machine, IsRefused, IsDiscarded, privateMachine}
-use Rattle.demands.specs.Played.{crewWith, crew, secure, ours, theirs, taken, cfp1At, cfp4At, stored, input, hears, hearsInVain, request, does, starts, expires}
+use Rattle.demands.specs.Played.{crewWith, crew, secure, outdated, outgoing, ours, theirs, taken, cfp1At, cfp4At, stored, input, hears, hearsInVain, request, does, starts, expires}
 
 -- ---- what meets no row
 
@@ -94,14 +94,18 @@ unfoldable pub refusals : List (Refusal privateMachine)
 refusals =
     (5, crew, stored Phase.P4 noCounters ours, hears (Reject (theirs .parties) 5), 63)
     ∷ (5, crew, clearedRecord, hears (GroupAccept (record { identifier = 0; sender = 9; «call_type» = 2; group = 3 })), 0)
+    ∷ (5, crew, clearedRecord, hears (request 0 outdated), 63)
+    ∷ (5, crew, clearedRecord, hears (request 0 0x0fff_ffff), 63)
     ∷ (6, crew, stored Phase.P2Tfp1 (cfp1At 1) ours, expires PrivateTimer.Tfp1, 42)
-    ∷ (7, crewWith false 0, stored Phase.P2Tfp1 (cfp1At 17) ours, starts 0x1234, 0)
-    ∷ (8, crew, stored Phase.P4 noCounters ours, starts 0, 0)
-    ∷ (8, crew, stored Phase.P1 noCounters ours, starts 0x1234, 0)
-    ∷ (9, crew, stored Phase.P2Tfp1 (cfp1At 4) ours, starts 0, 0)
-    ∷ (9, crewWith false 16, stored Phase.P2Tfp1 (cfp1At 17) ours, starts 0, 0)
-    ∷ (9, crew, stored Phase.P2Tfp1 (cfp1At 1) theirs, starts 0x1235, 63)
+    ∷ (7, crewWith false 0, stored Phase.P2Tfp1 (cfp1At 17) ours, starts 0x1234 0, 0)
+    ∷ (8, crew, stored Phase.P4 noCounters ours, starts 0 0, 0)
+    ∷ (8, crew, stored Phase.P1 noCounters ours, starts 0x1234 0, 0)
+    ∷ (8, crew, clearedRecord, starts 0x1235 outdated, 63)
+    ∷ (9, crew, stored Phase.P2Tfp1 (cfp1At 4) ours, starts 0 0, 0)
+    ∷ (9, crewWith false 16, stored Phase.P2Tfp1 (cfp1At 17) ours, starts 0 0, 0)
+    ∷ (9, crew, stored Phase.P2Tfp1 (cfp1At 1) theirs, starts 0x1235 0, 63)
     ∷ (9, crew, stored Phase.P4 (cfp4At 1) ours, does PrivateAction.End, 63)
+    ∷ (9, crew, stored Phase.P4 noCounters (outgoing 0x1234 outdated), does PrivateAction.End, 63)
     ∷ (9, crew, stored Phase.P1 noCounters noCall, expires PrivateTimer.Tfp7, 63)
     ∷ (9, crew, running State.P2 (record { tfp1 = true; tfp2 = true; tfp3 = false; tfp4 = false; tfp5 = false; tfp7 = false }), expires PrivateTimer.Tfp2, 63)
     ∷ (9, crew, running State.P4 (runningOf Phase.P1), expires PrivateTimer.Tfp7, 63)

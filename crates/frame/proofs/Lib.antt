@@ -1,4 +1,5 @@
 pub mod Laws
+pub mod Purpose
 pub mod NineKinds
 pub mod Hex
 pub mod MediaDigits

@@ -55,11 +55,11 @@ fn reason_good(reason: u8) -> bool
     reason <= 4
 }
 
-// A PCK-ID: 0, or 0011 in its top four bits.
+// A PCK-ID: 0, or 0001 in its top four bits.
 fn pck_good(pck_id: u32) -> bool
     ensures { λ r. ⌜ r ≡ pckGood «pck_id» ⌝ }
 {
-    (pck_id == 0) | (pck_id / 0x1000_0000 == 0b0011)
+    (pck_id == 0) | (pck_id / 0x1000_0000 == 0b0001)
 }
 
 impl Parties {

@@ -58,8 +58,8 @@ const PRIVATE_TYPE: &[(u32, u32)] = &[(4, 4)];
 const GROUP_TYPE: &[(u32, u32)] = &[(1, 3)];
 /// The five reasons of a reject.
 const REASONS: &[(u32, u32)] = &[(0, 4)];
-/// No security, or a number whose top four bits are 0011.
-const PCK_ID: &[(u32, u32)] = &[(0, 0), (0x3000_0000, 0x3fff_ffff)];
+/// No security, or a number whose top four bits are 0001.
+const PCK_ID: &[(u32, u32)] = &[(0, 0), (0x1000_0000, 0x1fff_ffff)];
 
 /// The identifier, which every kind carries first.
 const IDENTIFIER: Field = field("identifier", 2, SHORT_FROM_ONE);

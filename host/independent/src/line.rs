@@ -179,7 +179,7 @@ mod tests {
     /// Marked case L, read and written.
     #[test]
     fn case_l() {
-        for (pck_id, number) in [(0x3000_0000, 0), (0x4000_0000, 5)] {
+        for (pck_id, number) in [(0x1000_0000, 0), (0x3000_0000, 5)] {
             let setup = SetupRequest {
                 pck_id,
                 ..samples::SETUP

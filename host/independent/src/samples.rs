@@ -161,8 +161,15 @@ pub const RANGES: [Range; 7] = [
     },
     Range {
         names: &["pck_id"],
-        good: &[0, 0x3000_0000, 0x3000_0001, 0x3fff_ffff],
-        bad: &[1, 0x2fff_ffff, 0x4000_0000, u32::MAX],
+        good: &[0, 0x1000_0000, 0x1000_0001, 0x1fff_ffff],
+        bad: &[
+            1,
+            0x0fff_ffff,
+            0x2000_0000,
+            0x3000_0000,
+            0x3fff_ffff,
+            u32::MAX,
+        ],
     },
     Range {
         names: &["reason"],

@@ -107,7 +107,7 @@ fn edge(random: &mut Random, field: &Field, wanted: impl Fn(u32) -> bool) -> u32
 }
 
 /// Lists values worth trying: small ones, close ones, one digit alone at each place, and each side of
-/// every end of the range.
+/// every end of the range; for a PCK-ID also the ends of the range that it had before.
 fn edges(field: &Field) -> Vec<u32> {
     let largest = field.largest();
     let mut edges = vec![0, 1, 2, 0xff, 0x100, 1000, 1001, largest - 1, largest];
@@ -116,6 +116,9 @@ fn edges(field: &Field) -> Vec<u32> {
         edges.extend([lowest, highest]);
         edges.extend(lowest.checked_sub(1));
         edges.extend(highest.checked_add(1));
+    }
+    if field.name == "pck_id" {
+        edges.extend([0x3000_0000, 0x3fff_ffff]);
     }
     edges
 }
@@ -167,11 +170,12 @@ mod tests {
         assert!((50..2_500).contains(&of_edges), "{of_edges}");
     }
 
-    /// The PCK-ID meets both ends of its range and both neighbours.
+    /// The PCK-ID meets both ends of its range and both neighbours, and both ends of the range that it had.
     #[test]
     fn pck_id_edges_are_met() {
         let mut random = Random::new(4);
-        let mut missing = vec![0, 1, 0x2fff_ffff, 0x3000_0000, 0x3fff_ffff, 0x4000_0000];
+        let mut missing = vec![0, 1, 0x0fff_ffff, 0x1000_0000, 0x1fff_ffff, 0x2000_0000];
+        missing.extend([0x3000_0000, 0x3fff_ffff]);
         for _ in 0..20_000 {
             let message = message_perhaps_outside(&mut random);
             if let Message::PrivateCallSetupRequest(made) = message {

@@ -64,7 +64,7 @@ fn pending(timer: Timer) -> Record {
             callee: 7,
             commencement: 1,
             media: 5,
-            pck_id: 0x3000_0000,
+            pck_id: 0x1000_0000,
         },
     }
 }

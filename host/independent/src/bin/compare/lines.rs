@@ -2,6 +2,7 @@
 
 use crate::case::{named, Case, Difference, Draw, Spoil};
 use crate::lent::Lent;
+use crate::pck_id;
 use crate::proved;
 use crate::tally::{Row, Tally};
 use crate::words;
@@ -13,6 +14,7 @@ use independent::message::Message;
 pub const ROWS: &[Row] = &[
     ("number", &["0", "1", "2", "3", "4", "5"]),
     ("kind", &["1", "2", "3", "4", "5", "6", "7", "8", "9"]),
+    ("PCK-ID", pck_id::CLASSES),
     ("lent", &["filled", "empty", "null"]),
 ];
 
@@ -34,6 +36,9 @@ pub fn one(draw: &mut Draw, tally: &mut Tally) -> Result<(), Difference> {
     tally.meet_number("number", number_of(&reading));
     if let Ok(message) = reading {
         tally.meet_number("kind", message.kind().code());
+    }
+    if let Some(class) = pck_id::class(&line) {
+        tally.meet("PCK-ID", class);
     }
     compare_number(draw, &line, &mut lent, &reading)?;
     compare_values(draw, &line, &mut lent, &reading, far)

@@ -10,6 +10,7 @@ mod logs;
 mod options;
 mod pairs;
 mod parts;
+mod pck_id;
 mod proved;
 mod tally;
 mod words;

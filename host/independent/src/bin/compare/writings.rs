@@ -2,11 +2,12 @@
 
 use crate::case::{named, Case, Difference, Draw, Spoil};
 use crate::lent::Lent;
+use crate::pck_id;
 use crate::proved;
 use crate::tally::{Row, Tally};
 use crate::words;
 use independent::kind::Kind;
-use independent::line::{write, NO_KIND, SHORT_BUFFER};
+use independent::line::{line_of, write, NO_KIND, SHORT_BUFFER};
 use independent::making;
 use independent::message::{Message, MOST_FIELDS};
 use independent::random::Random;
@@ -15,6 +16,7 @@ use independent::random::Random;
 pub const ROWS: &[Row] = &[
     ("number", &["0", "3", "5", "6"]),
     ("written", &["1", "2", "3", "4", "5", "6", "7", "8", "9"]),
+    ("PCK-ID", pck_id::CLASSES),
     (
         "values",
         &[
@@ -49,6 +51,7 @@ pub fn one(draw: &mut Draw, tally: &mut Tally) -> Result<(), Difference> {
     let mut buffer = Lent::buffer(&before);
     tally.input(length);
     tally.meet("values", sort.unwrap_or(lent.sort()));
+    meet_pck_id(tally, &message, sort);
     tally.meet("buffer", room(length, line));
     let name = lent.named("the values");
     let case = Case {
@@ -75,6 +78,15 @@ pub fn one(draw: &mut Draw, tally: &mut Tally) -> Result<(), Difference> {
     };
     let case = Case { part, ..case };
     case.same_written(&proved, &independent, |&number| words::number(number))
+}
+
+/// Counts the PCK-ID of a message whose values are handed over as they are.
+fn meet_pck_id(tally: &mut Tally, message: &Message, sort: Option<&str>) {
+    if sort == Some("whole") {
+        if let Some(class) = pck_id::class(&line_of(message)) {
+            tally.meet("PCK-ID", class);
+        }
+    }
 }
 
 /// Makes a message, now and then with a value that is wider than its field, and says so.

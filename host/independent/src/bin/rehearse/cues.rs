@@ -193,12 +193,16 @@ fn private_start(random: &mut Random, name: Name, own: &Cab, other: &Cab) -> Phr
         1..=3 => pools::user_beside(random, own.settings.user),
         _ => other.settings.user,
     };
+    let pck_id = match random.below(16) {
+        0 => pools::outside_pck_id(random),
+        _ => pools::pck_id(random),
+    };
     let arguments = [
         ("identifier", identifier),
         ("callee", callee),
         ("commencement", pools::zero_or_one(random)),
         ("media", pools::media(random)),
-        ("pck-id", pools::pck_id(random)),
+        ("pck-id", pck_id),
     ];
     with_arguments(random, Phrase::new(name, &["private", "start"]), &arguments)
 }

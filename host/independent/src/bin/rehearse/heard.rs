@@ -78,7 +78,8 @@ fn of_call(random: &mut Random, own: &Cab, kind: Kind) -> Message {
     }
 }
 
-/// Makes a request to the cab, now and then for the same call again, to another or from its own user.
+/// Makes a request to the cab, now and then for the same call again, to another, from its own user or
+/// with a PCK-ID that there cannot be.
 fn request(random: &mut Random, own: &Cab, sort: u64) -> SetupRequest {
     let user = own.settings.user;
     let identifier = match random.below(10) {
@@ -86,7 +87,7 @@ fn request(random: &mut Random, own: &Cab, sort: u64) -> SetupRequest {
         _ => pools::identifier(random),
     };
     let pck_id = match sort {
-        2 => *random.pick(&[0x3000_0000, 0x3fff_ffff]),
+        2 => *random.pick(&[0x1000_0000, 0x1fff_ffff]),
         _ => pools::pck_id(random),
     };
     let mut request = SetupRequest {
@@ -102,6 +103,7 @@ fn request(random: &mut Random, own: &Cab, sort: u64) -> SetupRequest {
         0 => request.callee = pools::user(random),
         1 => request.caller = user.max(1),
         2 => (request.caller, request.callee) = (request.callee, request.caller),
+        3 => request.pck_id = pools::outside_pck_id(random),
         _ => {}
     }
     request

@@ -39,7 +39,7 @@ pub fn pck_id(random: &mut Random) -> u32 {
     if random.chance(2) {
         return 0;
     }
-    *random.pick(&[0x3000_0000, 0x3000_0001, 0x3abc_def0, 0x3fff_ffff])
+    *random.pick(&[0x1000_0000, 0x1000_0001, 0x1abc_def0, 0x1fff_ffff])
 }
 
 /// Draws a time, often close to others.
@@ -80,9 +80,17 @@ pub fn outside(random: &mut Random, name: &str) -> u32 {
     match name {
         "commencement" | "confirm" => *random.pick(&[2, 3, 128, 255]),
         "type" => *random.pick(&[0, 4, 5, 255]),
-        "pck-id" => *random.pick(&[1, 0x2fff_ffff, 0x4000_0000, 0x7000_0000, u32::MAX]),
+        "pck-id" => outside_pck_id(random),
         _ => 0,
     }
+}
+
+/// Draws a PCK-ID that there cannot be, as often as not of the purpose that it had before.
+pub fn outside_pck_id(random: &mut Random) -> u32 {
+    if random.chance(2) {
+        return *random.pick(&[0x3000_0000, 0x3000_0001, 0x3fff_ffff]);
+    }
+    *random.pick(&[1, 0x0fff_ffff, 0x2000_0000, 0x7000_0000, u32::MAX])
 }
 
 /// Draws the length of a buffer, mostly that of some line or close to it.

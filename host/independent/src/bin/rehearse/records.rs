@@ -91,7 +91,7 @@ pub fn group(random: &mut Random, settings: &Settings, state: group::State) -> g
 pub fn private_broken(random: &mut Random, record: &private::Record) -> private::Record {
     let mut broken = *record;
     let call = &mut broken.call;
-    match random.below(14) {
+    match random.below(15) {
         0 => broken.state = *random.pick(&private::State::ALL),
         1 | 2 => broken.running = flipped(broken.running, *random.pick(&Timer::PRIVATE)),
         3 | 4 => {
@@ -105,15 +105,15 @@ pub fn private_broken(random: &mut Random, record: &private::Record) -> private:
         8 => call.callee = call.caller,
         9 => call.caller = pools::user(random),
         10 => call.callee = pools::user(random),
+        11 | 12 => call.pck_id = pools::outside_pck_id(random),
         _ => {
-            let name = *random.pick(&["caller", "callee", "commencement", "media", "pck-id"]);
+            let name = *random.pick(&["caller", "callee", "commencement", "media"]);
             let value = pools::outside(random, name);
             match name {
                 "caller" => call.caller = value,
                 "callee" => call.callee = value,
                 "commencement" => call.commencement = value,
-                "media" => call.media = value,
-                _ => call.pck_id = value,
+                _ => call.media = value,
             }
         }
     }

@@ -24,7 +24,7 @@ type PrivateStep = fn(&Case<private::Record>, &mut [u8]) -> Step<private::Record
 type GroupStep = fn(&Case<group::Record>, &mut [u8]) -> Step<group::Record>;
 
 /// All slips.
-pub const SLIPS: [Slip; 10] = [
+pub const SLIPS: [Slip; 12] = [
     in_private(
         "second-accept",
         "an accept pressed again begins the count of CFP4 anew",
@@ -59,6 +59,16 @@ pub const SLIPS: [Slip; 10] = [
         "refusal-writes",
         "a refusal clears the buffer",
         refusal_writes,
+    ),
+    in_private(
+        "old-key-stored",
+        "a stored PCK-ID with 0011 on top is taken for one with 0001",
+        old_key_stored,
+    ),
+    in_private(
+        "old-key-started",
+        "a start with 0011 on top of its PCK-ID is taken for one with 0001",
+        old_key_started,
     ),
     in_group(
         "types-by-code",
@@ -175,6 +185,42 @@ fn refusal_writes(case: &Case<private::Record>, out: &mut [u8]) -> Step<private:
         out.fill(0);
     }
     step
+}
+
+/// Goes on with a record that a build from before has left.
+fn old_key_stored(case: &Case<private::Record>, out: &mut [u8]) -> Step<private::Record> {
+    let mut renewed = *case;
+    renew(&mut renewed.record.call.pck_id);
+    if_taken(&renewed, case, out)
+}
+
+/// Starts a call whose key is one from before.
+fn old_key_started(case: &Case<private::Record>, out: &mut [u8]) -> Step<private::Record> {
+    let mut renewed = *case;
+    if let Event::Action(Action::PrivateStart(start)) = &mut renewed.event {
+        renew(&mut start.pck_id);
+    }
+    if_taken(&renewed, case, out)
+}
+
+/// Puts 0001 on top of a PCK-ID in the place of 0011.
+fn renew(pck_id: &mut u32) {
+    if *pck_id >> 28 == 3 {
+        *pck_id ^= 0x2000_0000;
+    }
+}
+
+/// Takes the step of a renewed case, or that of the case at hand where even the renewed one is refused.
+fn if_taken(
+    renewed: &Case<private::Record>,
+    case: &Case<private::Record>,
+    out: &mut [u8],
+) -> Step<private::Record> {
+    let step = private::step(renewed, out);
+    if step.number == 0 {
+        return step;
+    }
+    private::step(case, out)
 }
 
 /// Ranks imminent peril, whose code is the highest, above emergency.

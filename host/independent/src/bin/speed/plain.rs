@@ -188,7 +188,7 @@ fn good_private(frame: &Frame) -> bool {
             frame.commencement <= 1
                 && frame.call_type == 4
                 && frame.media != 0
-                && (frame.pck_id == 0 || frame.pck_id >> 28 == 3)
+                && (frame.pck_id == 0 || frame.pck_id >> 28 == 1)
         }
         ACCEPT => frame.media != 0,
         REJECT => frame.reason <= 4,

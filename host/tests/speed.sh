@@ -268,7 +268,7 @@ unmoved() { awk "${@:3}" -f host/tests/speed_slow.awk <(echo "$slow") <(rows "$1
 for try in 1 2 3 4 5; do
     [ $try -eq 1 ] || "$room/speed" --quick --seed 7 >"$room/times"
     BASELINE=$room/slip run --quick --seed 7
-    wrong=$(wrongs 0; unmoved "$room/times" "$asked" -v wide=2 -v by=0.5 -v still=0.5)
+    wrong=$(wrongs 0; unmoved "$room/times" "$asked" -v wide=2 -v by=0.4 -v still=0.4)
     [ -n "$wrong" ] || break
 done
 verdict "C that does more takes as much longer, and nothing else does" "$wrong"

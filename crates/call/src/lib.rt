@@ -1,5 +1,7 @@
 // What the private and the group machine share: settings, timers and what becomes of them, actions, events, what is
 // sent; and the setup request or the announcement that an event brings.
+#![tactic(auto)]
+
 mod announcements;
 mod requests;
 pub mod timers;
@@ -12,7 +14,7 @@ ghost use Rattle.call.specs.Settings.{restricted as restrictedBy};
 use frame::{GroupCall, Media, Message, Parties, Setup};
 
 // The three counters, each of the sendings of one message; and a limit for each of them.
-#[derive(Drop)]
+#[derive(Clone, Copy)]
 pub struct Counters {
     pub cfp1: u8,
     pub cfp3: u8,
@@ -35,7 +37,7 @@ impl Counters {
 }
 
 // What the terminal is set to.
-#[derive(Drop)]
+#[derive(Clone, Copy)]
 pub struct Settings {
     pub own_user: u32,
     pub own_group: u32,
@@ -54,14 +56,14 @@ impl Settings {
 }
 
 // What the host finds out: whether media can be set up, and whether the signature is good.
-#[derive(Drop)]
+#[derive(Clone, Copy)]
 pub struct Verdicts {
     pub media: bool,
     pub signature: bool,
 }
 
 // The timers of the private machine.
-#[derive(Drop)]
+#[derive(Clone, Copy)]
 pub enum PrivateTimer {
     Tfp1,
     Tfp2,
@@ -72,7 +74,7 @@ pub enum PrivateTimer {
 }
 
 // The timers of the group machine.
-#[derive(Drop)]
+#[derive(Clone, Copy)]
 pub enum GroupTimer {
     Tfg2,
     Tfg4,
@@ -80,14 +82,14 @@ pub enum GroupTimer {
 }
 
 // The timers, by their machine.
-#[derive(Drop)]
+#[derive(Clone, Copy)]
 pub enum Timer {
     Private(PrivateTimer),
     Group(GroupTimer),
 }
 
 // What the user names who starts a private call; its media stands beside it.
-#[derive(Drop)]
+#[derive(Clone, Copy)]
 pub struct PrivateStart {
     pub identifier: u16,
     pub callee: u32,
@@ -96,7 +98,7 @@ pub struct PrivateStart {
 }
 
 // What the user does with a private call.
-#[derive(Drop)]
+#[derive(Clone, Copy)]
 pub enum PrivateAction {
     Start(PrivateStart),
     End,
@@ -105,7 +107,7 @@ pub enum PrivateAction {
 }
 
 // What the user names who starts a group call, and the time; its media stands beside it.
-#[derive(Drop)]
+#[derive(Clone, Copy)]
 pub struct GroupStart {
     pub identifier: u16,
     pub call_type: u8,
@@ -115,14 +117,14 @@ pub struct GroupStart {
 }
 
 // The type that the user raises a group call to, and the time.
-#[derive(Drop)]
+#[derive(Clone, Copy)]
 pub struct GroupRaise {
     pub call_type: u8,
     pub now: u32,
 }
 
 // What the user does with a group call.
-#[derive(Drop)]
+#[derive(Clone, Copy)]
 pub enum GroupAction {
     Start(GroupStart),
     Accept,
@@ -132,14 +134,14 @@ pub enum GroupAction {
 }
 
 // The user actions, by their machine.
-#[derive(Drop)]
+#[derive(Clone, Copy)]
 pub enum Action {
     Private(PrivateAction),
     Group(GroupAction),
 }
 
 // What happens: a user action, the expiry of a timer, or a message that was received.
-#[derive(Drop)]
+#[derive(Clone, Copy)]
 pub enum Event {
     Action(Action),
     Expiry(Timer),
@@ -147,7 +149,7 @@ pub enum Event {
 }
 
 // What a step takes in: an event, the media beside it, and the host's verdicts.
-#[derive(Drop)]
+#[derive(Clone, Copy)]
 pub struct Input {
     pub event: Event,
     pub media: Media,
@@ -155,14 +157,14 @@ pub struct Input {
 }
 
 // What a step sends; its media stands beside it.
-#[derive(Drop)]
+#[derive(Clone, Copy)]
 pub enum Send {
     Nothing,
     Message(Message),
 }
 
 // A setup request: the parties of a private call, and what it says besides.
-#[derive(Drop)]
+#[derive(Clone, Copy)]
 pub struct Request {
     pub parties: Parties,
     pub setup: Setup,
@@ -206,7 +208,7 @@ pub fn request_of(settings: Settings, event: Event) -> Request
 }
 
 // An announcement: a group call, all but its media, and whether it asks the others to confirm.
-#[derive(Drop)]
+#[derive(Clone, Copy)]
 pub struct Announced {
     pub call: GroupCall,
     pub confirm: u8,

@@ -3,7 +3,7 @@ ghost use Rattle.std.specs.Prelude.{◌≡◌};
 ghost use Rattle.call.specs.Timing.{is_stopped, runs_after};
 
 // What the rules ask of one timer.
-#[derive(Drop)]
+#[derive(Clone, Copy)]
 pub struct TimerFacts {
     // It ran before the step.
     pub was_running: bool,

@@ -1,4 +1,6 @@
 // The chooser: of two lent announcement lines the one whose call is better, itself and no copy.
+#![tactic(auto)]
+
 ghost use Rattle.std.specs.Prelude.{◌≡◌};
 ghost use Rattle.chooser.specs.Choice.{announced_by, line_announced, asked_of, asked_of_line};
 ghost use Rattle.chooser.specs.Choice.{calls_choice, choice_of, choice_number, place, place_of};
@@ -7,7 +9,7 @@ use frame::{GroupCall, Message};
 use reader::Read;
 
 // What a line announces: a group call, or nothing.
-#[derive(Drop)]
+#[derive(Clone, Copy)]
 enum LineCall {
     Call(GroupCall),
     Nothing,

@@ -1,4 +1,6 @@
 // The program that plays a script of two cabs through the machines, step by step: docs/DRILL.md has its language.
+#![tactic(auto)]
+
 mod cabs;
 mod commands;
 mod complaints;

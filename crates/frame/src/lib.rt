@@ -1,9 +1,11 @@
 // Messages of the cab terminal: the nine kinds, the media beside them, and the range of every field.
+#![tactic(auto)]
+
 mod carried;
 pub mod range;
 
 // What stands beside a message whose kind carries media: today a number.
-#[derive(Drop)]
+#[derive(Clone, Copy)]
 pub struct Media {
     pub number: u32,
 }
@@ -14,7 +16,7 @@ impl Media {
 }
 
 // A private call: its identifier and its two users.
-#[derive(Drop)]
+#[derive(Clone, Copy)]
 pub struct Parties {
     pub identifier: u16,
     pub caller: u32,
@@ -31,7 +33,7 @@ impl Parties {
 }
 
 // What a setup request says of the call besides.
-#[derive(Drop)]
+#[derive(Clone, Copy)]
 pub struct Setup {
     pub commencement: u8,
     pub call_type: u8,
@@ -44,7 +46,7 @@ impl Setup {
 }
 
 // A group call, all but its media.
-#[derive(Drop)]
+#[derive(Clone, Copy)]
 pub struct GroupCall {
     pub identifier: u16,
     pub group: u32,
@@ -71,7 +73,7 @@ impl GroupCall {
 }
 
 // A user's acceptance of a group call.
-#[derive(Drop)]
+#[derive(Clone, Copy)]
 pub struct Acceptance {
     pub identifier: u16,
     pub sender: u32,
@@ -80,7 +82,7 @@ pub struct Acceptance {
 }
 
 // The nine kinds of message, 01 to 09; a reject has its reason, an announcement its confirm beside it.
-#[derive(Drop)]
+#[derive(Clone, Copy)]
 pub enum Message {
     SetupRequest(Parties, Setup),
     Ringing(Parties),

@@ -60,6 +60,7 @@ fn pck_good(pck_id: u32) -> bool
 
 impl Parties {
     // The fields of a private call.
+    #[tactic(auto, unfolding(crate::specs::Frame::parties_good))]
     fn is_good(self) -> bool
         ensures { result ≡ parties_good self }
     {
@@ -69,6 +70,7 @@ impl Parties {
 
 impl Setup {
     // What a setup request says besides.
+    #[tactic(auto, unfolding(crate::specs::Frame::setup_good))]
     fn is_good(self) -> bool
         ensures { result ≡ setup_good self }
     {
@@ -78,6 +80,7 @@ impl Setup {
 
 impl GroupCall {
     // The fields of a group call.
+    #[tactic(auto, unfolding(crate::specs::Frame::group_call_good))]
     fn is_good(self) -> bool
         ensures { result ≡ group_call_good self }
     {
@@ -93,6 +96,7 @@ impl GroupCall {
 
 impl Acceptance {
     // The fields of a group call accept.
+    #[tactic(auto, unfolding(crate::specs::Frame::acceptance_good))]
     fn is_good(self) -> bool
         ensures { result ≡ acceptance_good self }
     {
@@ -102,6 +106,7 @@ impl Acceptance {
 }
 
 // Every field of a message is in its range, and so is its media where its kind carries media.
+#[tactic(auto, unfolding(crate::specs::Frame::in_range))]
 pub fn in_range(message: Message, media: Media) -> bool
     ensures { result ≡ in_range message media }
 {

@@ -102,7 +102,7 @@ fn sent(settings: Settings, say: Say, held: GroupCall, confirm: u8) -> Send
 // ---- the whole
 
 // What carrying out a row gives: the next record, the timers to stop, then those to start, and what is sent.
-#[derive(Drop)]
+#[derive(Clone, Copy)]
 pub struct Carried {
     pub next: GroupRecord,
     pub stop: Timers,

@@ -7,7 +7,7 @@ use group_record::states::{State, Timers};
 use group_rows::Row;
 
 // Which call the record holds afterwards.
-#[derive(Drop)]
+#[derive(Clone, Copy)]
 pub enum Hold {
     // The stored one.
     Keep,
@@ -22,7 +22,7 @@ pub enum Hold {
 }
 
 // What a row sends.
-#[derive(Drop)]
+#[derive(Clone, Copy)]
 pub enum Say {
     Nothing,
     // An announcement with the user's confirm.
@@ -33,7 +33,7 @@ pub enum Say {
 }
 
 // What a row does.
-#[derive(Drop)]
+#[derive(Clone, Copy)]
 pub struct Effect {
     // The state afterwards.
     pub to: State,

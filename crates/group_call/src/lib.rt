@@ -1,4 +1,6 @@
 // The group call machine: what each row does, what holds for all rows, and one step.
+#![tactic(auto)]
+
 mod carrying;
 mod effects;
 mod timers;
@@ -17,7 +19,7 @@ use writer::Written;
 
 // What a step answers. A number other than 0 refuses; row 0 is none; `stop` comes ahead of `start`; the line of this
 // length stands at the front of the buffer.
-#[derive(Drop)]
+#[derive(Clone, Copy)]
 pub struct Stepped {
     pub number: u8,
     pub row: u8,

@@ -71,7 +71,7 @@ fn has(timers: Timers, timer: GroupTimer) -> bool
 }
 
 // What the rules ask of the timers: the sets, and whether the state changes.
-#[derive(Drop)]
+#[derive(Clone, Copy)]
 pub struct TimerSets {
     pub was_running: Timers,
     pub ran_out: Timers,

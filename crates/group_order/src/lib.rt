@@ -1,4 +1,6 @@
 // The order of group calls: which of two is better.
+#![tactic(auto)]
+
 ghost use Rattle.std.specs.Prelude.{◌≡◌};
 ghost use Rattle.group_order.specs.Order.{rank_of, is_better};
 

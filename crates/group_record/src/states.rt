@@ -6,7 +6,7 @@ ghost use Rattle.group_record.specs.Formed.{cleared_record};
 use frame::{GroupCall, Media};
 
 // The states: start-stop, ongoing, and two in which the user is asked, S4 without confirm and S5 with it.
-#[derive(Drop)]
+#[derive(Clone, Copy)]
 pub enum State {
     S1,
     S3,
@@ -29,7 +29,7 @@ impl State {
 }
 
 // A set of the group timers.
-#[derive(Drop)]
+#[derive(Clone, Copy)]
 pub struct Timers {
     pub tfg2: bool,
     pub tfg4: bool,
@@ -74,7 +74,7 @@ impl Timers {
 }
 
 // The group record; its call and media are the nine fields of a group call.
-#[derive(Drop)]
+#[derive(Clone, Copy)]
 pub struct GroupRecord {
     pub state: State,
     pub running: Timers,

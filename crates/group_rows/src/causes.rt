@@ -8,7 +8,7 @@ use frame::{GroupCall, Message};
 use group_order::{better, rank};
 
 // What happens to a group call, without any fields; what can meet no row is Other.
-#[derive(Drop)]
+#[derive(Clone, Copy)]
 pub enum Cause {
     UserStarts,
     UserAccepts,
@@ -23,7 +23,7 @@ pub enum Cause {
 }
 
 // What a row may ask besides the cause and the state.
-#[derive(Drop)]
+#[derive(Clone, Copy)]
 pub struct Facts {
     // The user is asked before a call is joined.
     pub acknowledgement: bool,

@@ -1,4 +1,6 @@
 // The rows G1 to G11 by name, and which of them an event meets from a group record.
+#![tactic(auto)]
+
 mod causes;
 mod rows;
 
@@ -11,7 +13,7 @@ use call::{Event, Settings, announced_of};
 use group_record::states::GroupRecord;
 
 // The rows by name, and Discard where none is met.
-#[derive(Drop)]
+#[derive(Clone, Copy)]
 pub enum Row {
     Discard,
     G1,

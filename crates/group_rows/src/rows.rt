@@ -8,7 +8,7 @@ use crate::causes::{Cause, Facts};
 use group_record::states::State;
 
 // Which state it is.
-#[derive(Drop)]
+#[derive(Clone, Copy)]
 struct At {
     s1: bool,
     s3: bool,

@@ -1,4 +1,6 @@
 // The program that answers a log: everything that matters is in `log`.
+#![tactic(auto)]
+
 use libc::{STDERR_FILENO, STDIN_FILENO, STDOUT_FILENO};
 
 // How many bytes are answered at most.

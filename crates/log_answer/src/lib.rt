@@ -1,4 +1,6 @@
 // The answer to a log of lines.
+#![tactic(auto)]
+
 mod answers;
 
 ghost use Rattle.std.specs.Prelude.{◌≡◌};

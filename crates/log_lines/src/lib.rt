@@ -1,4 +1,6 @@
 // A log as lines: how long its first line is.
+#![tactic(auto)]
+
 mod eights;
 
 ghost use Rattle.std.specs.Prelude.{◌≡◌, length};

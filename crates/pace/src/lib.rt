@@ -1,5 +1,7 @@
 // Entries for C that play the steps which the bytes of a script name, one after the other, so that a host can measure
 // a step of either machine.
+#![tactic(auto)]
+
 mod happenings;
 
 ghost use Rattle.std.specs.Prelude.{◌≡◌, ◌≤◌};

@@ -1,4 +1,6 @@
 // The entries for the panel shell in C: numbers and byte slices, and nothing else. Declared in host/include/panel.h.
+#![tactic(auto)]
+
 ghost use Rattle.std.specs.Prelude.{◌≡◌};
 ghost use Rattle.reader.specs.Line.{line_number};
 ghost use Rattle.chooser.specs.Choice.{choice_of, choice_number};

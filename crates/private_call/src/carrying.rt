@@ -27,7 +27,7 @@ fn one_more(limit: u8, counter: u8) -> u8
 }
 
 // What the rules ask of one counter.
-#[derive(Drop)]
+#[derive(Clone, Copy)]
 pub struct CounterFacts {
     // Its timer runs after the step.
     pub runs: bool,
@@ -188,7 +188,7 @@ fn sent(settings: Settings, say: Say, call: PrivateCall, other: Parties) -> Send
 // ---- the whole
 
 // What carrying out a row gives: the next record, the timers to stop, then those to start, and what is sent.
-#[derive(Drop)]
+#[derive(Clone, Copy)]
 pub struct Carried {
     pub next: PrivateRecord,
     pub stop: Timers,

@@ -9,7 +9,7 @@ use private_record::states::{State, Timers};
 use private_rows::Row;
 
 // Which call the record holds afterwards.
-#[derive(Drop)]
+#[derive(Clone, Copy)]
 pub enum Hold {
     // The stored one.
     Keep,
@@ -22,7 +22,7 @@ pub enum Hold {
 }
 
 // The reasons of a reject.
-#[derive(Drop)]
+#[derive(Clone, Copy)]
 pub enum Reason {
     Reject,
     MediaFailure,
@@ -47,7 +47,7 @@ impl Reason {
 }
 
 // What a row sends.
-#[derive(Drop)]
+#[derive(Clone, Copy)]
 pub enum Say {
     Nothing,
     SetupRequest,
@@ -63,7 +63,7 @@ pub enum Say {
 }
 
 // What a row does.
-#[derive(Drop)]
+#[derive(Clone, Copy)]
 pub struct Effect {
     // The state afterwards.
     pub to: State,

@@ -1,4 +1,6 @@
 // The private record, and when it is well formed.
+#![tactic(auto)]
+
 pub mod states;
 
 ghost use Rattle.std.specs.Prelude.{◌≡◌, eqb};

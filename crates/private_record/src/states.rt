@@ -7,7 +7,7 @@ use call::Counters;
 use frame::{Media, Parties};
 
 // The states: start-stop, ignoring same id, waiting for response, releasing, ongoing, pending.
-#[derive(Drop)]
+#[derive(Clone, Copy)]
 pub enum State {
     P0,
     P1,
@@ -18,7 +18,7 @@ pub enum State {
 }
 
 // A set of the private timers.
-#[derive(Drop)]
+#[derive(Clone, Copy)]
 pub struct Timers {
     pub tfp1: bool,
     pub tfp2: bool,
@@ -101,7 +101,7 @@ impl Timers {
 }
 
 // What is known of a call.
-#[derive(Drop)]
+#[derive(Clone, Copy)]
 pub struct PrivateCall {
     pub parties: Parties,
     pub commencement: u8,
@@ -120,7 +120,7 @@ impl PrivateCall {
 }
 
 // The private record.
-#[derive(Drop)]
+#[derive(Clone, Copy)]
 pub struct PrivateRecord {
     pub state: State,
     pub running: Timers,
@@ -146,7 +146,7 @@ impl PrivateRecord {
 }
 
 // A state with its running timers: P2 and P5 have two phases each.
-#[derive(Drop)]
+#[derive(Clone, Copy)]
 pub enum Phase {
     P0,
     P1,

@@ -13,7 +13,7 @@ use frame::{Message, Parties};
 use private_record::states::{Phase, PrivateCall};
 
 // What happens to a private call, without any fields; what can meet no row is Other.
-#[derive(Drop)]
+#[derive(Clone, Copy)]
 pub enum Cause {
     UserStarts,
     UserEnds,
@@ -36,7 +36,7 @@ pub enum Cause {
 }
 
 // What a row may ask besides the cause and the phase.
-#[derive(Drop)]
+#[derive(Clone, Copy)]
 pub struct Facts {
     // The message is of the stored call.
     pub same: bool,

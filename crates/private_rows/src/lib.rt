@@ -1,4 +1,6 @@
 // The rows R1 to R29 by name, and which of them an event meets from a private record.
+#![tactic(auto)]
+
 mod causes;
 mod phases;
 mod rows;
@@ -13,7 +15,7 @@ use call::{Input, Settings};
 use private_record::states::PrivateRecord;
 
 // The rows by name, and Discard where none is met.
-#[derive(Drop)]
+#[derive(Clone, Copy)]
 pub enum Row {
     Discard,
     R1,

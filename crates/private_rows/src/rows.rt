@@ -9,7 +9,7 @@ use crate::causes::{Cause, Facts};
 use private_record::states::Phase;
 
 // The answers of a phase to what rows ask of it.
-#[derive(Drop)]
+#[derive(Clone, Copy)]
 struct At {
     p0_or_p1: bool,
     p1: bool,

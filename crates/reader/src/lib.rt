@@ -1,4 +1,6 @@
 // The reader of lines: the frame of a line, or the number that refuses it.
+#![tactic(auto)]
+
 mod carried;
 mod digits;
 mod fields;
@@ -12,14 +14,14 @@ ghost use Rattle.reader.specs.Line.{unended, Digital, line_number, read_line};
 use frame::{Media, Message};
 
 // What a line reads as: a message, or the number that refuses it.
-#[derive(Drop)]
+#[derive(Clone, Copy)]
 pub enum Read {
     Readable(Message),
     Refused(u8),
 }
 
 // The reader's answer, with the media beside it; NONE where the kind carries none and where the line is refused.
-#[derive(Drop)]
+#[derive(Clone, Copy)]
 pub struct Reading {
     pub read: Read,
     pub media: Media,

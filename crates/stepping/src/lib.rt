@@ -1,4 +1,6 @@
 // What the steps of both machines do alike: the numbers that they give ahead of any row, and the line that they send.
+#![tactic(auto)]
+
 ghost use Rattle.std.specs.Prelude.{◌≡◌};
 ghost use Rattle.frame.specs.Digits.{four};
 ghost use Rattle.frame.specs.Range.{never_zero};

@@ -1,5 +1,7 @@
 // Entries for the host's own trials of what the panel shell does not call: the values that a line is read as, the line
 // that values are written as, and the answer to a log.
+#![tactic(auto)]
+
 mod carried;
 mod values;
 

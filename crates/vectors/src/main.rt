@@ -1,4 +1,6 @@
 // The program that plays the run-and-compare cases through the machines and writes each line that they send.
+#![tactic(auto)]
+
 use call::{
     Action, Counters, Event, GroupAction, GroupStart, Input, PrivateAction, PrivateStart, Settings,
     Verdicts,

@@ -1,4 +1,6 @@
 // The writer of lines: the line of a frame at the front of a lent buffer.
+#![tactic(auto)]
+
 mod carried;
 mod put;
 mod store;
@@ -11,7 +13,7 @@ use frame::range::in_range;
 use frame::{Media, Message};
 
 // What writing into a lent buffer answers: the number, and the length of what it wrote, 0 where the number refuses.
-#[derive(Drop)]
+#[derive(Clone, Copy)]
 pub struct Written {
     pub number: u8,
     pub length: usize,

@@ -1,5 +1,5 @@
 -- The three cases of a line to write. Assumes nothing.
-use Rattle.std.proofs.Common.{◌≡◌, true, false, sym, ◌∙◌, arith}
+use Rattle.std.proofs.Common.{sym, ◌∙◌, arith}
 use Rattle.writer.proofs.Stores.{gives, unranged, no_room, room}
 use Rattle.writer.proofs.write_line.Goals as goal
 

@@ -63,7 +63,7 @@ function asked(row, head, what) {
         place += taken + 1
         what = bare(what)
         if (what ~ /^Cause\.[A-Za-z0-9]+$/) return "cause:" tail_of(what)
-        if (what ~ /^(private|group)TimerCause [A-Za-z]+\.Tf[pg][0-9]+$/) return "out:" tail_of(what)
+        if (what ~ /^(private|group)_timer_cause [A-Za-z]+\.Tf[pg][0-9]+$/) return "out:" tail_of(what)
     }
     refuse(file, row ": cannot read '" head " " token[place] "'")
 }

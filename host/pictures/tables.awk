@@ -92,7 +92,7 @@ function read_starter(field, n, i, t, by_row) {
     for (i = 1; i <= n; i++) {
         if (field[i] == "") continue
         split(field[i], t, " ")
-        by_row = t[1] " = start ." t[1]
+        by_row = t[1] " = ( start ." t[1] " )"
         if (field[i] == by_row) continue
         if (index(field[i], by_row " || ( changes state to && eqb ( state_number to ) ") != 1 || field[i] !~ / [0-9] \)$/)
             refuse(carrying, "started_of: cannot read '" field[i] "'")

@@ -1,21 +1,48 @@
 # The definitions of a file *.antt, and what a term is once the definitions in it are filled in.
-# A clause `name a b = body` may go on in indented lines. Tokens are words, brackets, `;` and `,`, with a blank between two of them.
+# A clause `name a b = body` may go on in indented lines. Tokens are words, brackets, `;` and `,`, with a blank between two of them; a field of
+# a value, x.timers.tfp1, is three, and they stand in brackets: ( x .timers .tfp1 ).
 
 # Gives up with one line that names the file and what is wrong with it; `command`, told by -v, is who says so.
-function refuse(file, what) {
+function refuse(file, what, field) {
+    while (match(what, /\( [a-z_][a-z0-9_]*( \.[a-z0-9_]+)+ \)/)) {
+        field = substr(what, RSTART + 2, RLENGTH - 4)
+        gsub(/ /, "", field)
+        what = substr(what, 1, RSTART - 1) field substr(what, RSTART + RLENGTH)
+    }
     print command ": " file ": " what >"/dev/stderr"
     exit 2
 }
 
-# A line as tokens, without its comment.
+# A line as tokens, without its comment: a dot with what is behind it is one where that is a field, and a name behind its type's is none.
 function spaced(line) {
     sub(/--.*/, "", line)
     gsub(/[«»]+/, "", line)
     gsub(/[(){};,]/, " & ", line)
+    gsub(/\.[a-z0-9]/, " &", line)
     gsub(/[ \t]+/, " ", line)
     sub(/^ /, "", line)
     sub(/ $/, "", line)
     return line
+}
+
+# Tokens with each field in brackets, together with the value that it is of.
+function bracketed(text, t, n, i, out, o, from, opened, depth) {
+    n = split(text, t, " ")
+    for (i = 1; i <= n; i++) {
+        if (t[i] ~ /^\.[a-z0-9]/ && from) {
+            out[from] = "( " out[from]
+            out[++o] = t[i]
+            while (i < n && t[i + 1] ~ /^\.[a-z0-9]/) out[o] = out[o] " " t[++i]
+            out[o] = out[o] " )"
+            continue
+        }
+        out[++o] = t[i]
+        from = t[i] == ")" ? opened[depth--] : o
+        if (t[i] == "(") opened[++depth] = o
+    }
+    text = out[1]
+    for (i = 2; i <= o; i++) text = text " " out[i]
+    return text
 }
 
 # Reads the clauses of a file: see `keep_clause`.
@@ -37,6 +64,7 @@ function load(path, kept, line, whole, got) {
 # Where `kept` is "text", that and how often there is one are all, and the name does not stand for its definition in a term; where it is
 # "quote", the file does not define the clause but quotes it, and this is all that is kept.
 function keep_clause(path, whole, kept, at, left, n, i) {
+    whole = bracketed(whole)
     if (!(at = index(whole, " = "))) return
     n = split(substr(whole, 1, at - 1), left, " ")
     if (kept == "quote") {
@@ -51,7 +79,7 @@ function keep_clause(path, whole, kept, at, left, n, i) {
     clauses[left[1]]++
     arity[left[1]] = n - 1
     for (i = 2; i <= n; i++) parameter[left[1], i - 1] = left[i]
-    body[left[1]] = substr(whole, at + 3)
+    body[left[1]] = bare(substr(whole, at + 3))
     clause_of[left[1], clauses[left[1]]] = left[2]
     body_at[left[1], left[2]] = body[left[1]]
 }

@@ -33,7 +33,7 @@ function means(kind, name, text, path) {
 # Reads the names of the states: they stand ahead of the type of states, in its order. Of two that ask the user one confirms. A state has the
 # number that stands in its name.
 function read_state_names(line, name, n, before, i) {
-    while ((getline line <naming) > 0 && line != "pub enum State {") before = line
+    while ((getline line <naming) > 0 && line != "pub enum State {") if (line !~ /^#/) before = line
     if (before !~ /^\/\/ The states: .*\.$/) refuse(naming, "has no names of the states ahead of them")
     sub(/, and two in which the user is asked, S4 without confirm and S5 with it\.$/, ", user is asked/ without confirm, user is asked/ with confirm.", before)
     split(substr(before, 16, length(before) - 16), name, ", ")
@@ -66,7 +66,7 @@ function read_causes_and_messages(clause, t, value) {
     for (clause in is_clause) {
         split(clause, t, " ")
         value = substr(clause, index(clause, " = ") + 3)
-        if (t[1] ~ /^(private|group)ActionCause$/) means("cause", tail_of(value), "user " tolower(tail_of(t[2] == "(" ? t[3] : t[2])) "s", causing)
+        if (t[1] ~ /^(private|group)_action_cause$/) means("cause", tail_of(value), "user " tolower(tail_of(t[2] == "(" ? t[3] : t[2])) "s", causing)
         if (t[1] == "message_cause" && (value = cause_named(value)) != "Other") means("cause", value, in_capitals(t[4]) " heard", causing)
         if (t[1] == "sent_of") means("say", tail_of(t[3] == "(" ? t[4] : t[3]), message_in(value), carrying)
     }
@@ -103,7 +103,7 @@ function read_meanings(line, part, pair, name, facts, field, n, i) {
     while ((getline line <meanings) > 0) {
         if (line ~ /^(#|$)/) continue
         split(line, part, " [|] ")
-        part[3] = spaced(part[3])
+        part[3] = bracketed(spaced(part[3]))
         if (!(part[3] in is_clause) && !(part[3] in is_field)) refuse(meanings, "no definition reads '" part[3] "'")
         name = part[3]
         sub(/ .*/, "", name)

@@ -31,7 +31,7 @@ function compare_quotes(i, often) {
 function check_numbers(clause, part, seen, n) {
     for (clause in is_clause) {
         n = split(clause, part, " ")
-        if (part[1] ~ /^(cause|state)Number$/ && seen[part[1], part[n]]++)
+        if (part[1] ~ /^(cause|state)_number$/ && seen[part[1], part[n]]++)
             refuse(part[1] == "cause_number" ? causing : running, part[1] ": gives " part[n] " twice")
         if (part[1] == "row_number" && substr(part[2], 2) != part[n] && part[2] " " part[n] != "Discard 0")
             refuse(asking, "row_number: gives " part[n] " to " part[2])
@@ -52,12 +52,12 @@ function read_timers(t, n, i) {
 function read_counters(part, n, i, t) {
     if (!("counters_after" in clauses)) return
     check_parameters(carrying, "counters_after", "running started again limits counters")
-    n = split(substr(body["counters_after"], 10, length(body["counters_after"]) - 13), part, / \)( ; |$)/)
+    n = split(substr(body["counters_after"], 10, length(body["counters_after"]) - 13), part, / [}] \)( ; |$)/)
     for (i = 1; i < n; i++) {
         split(part[i], t, " ")
-        if (part[i] != t[1] " = counter_after ( record { runs = running " t[10] " ; started = started " t[10] " ; again = again ; limit = limits ." t[1] " ; was = counters ." t[1] " }")
-            refuse(carrying, "counters_after: cannot read '" part[i] " )'")
-        counter_of[toupper(substr(t[10], 2))] = toupper(t[1])
+        if (part[i] != t[1] " = counter_after ( record { runs = ( running " t[11] " ) ; started = ( started " t[11] " ) ; again = again ; limit = ( limits ." t[1] " ) ; was = ( counters ." t[1] " )")
+            refuse(carrying, "counters_after: cannot read '" part[i] " } )'")
+        counter_of[toupper(substr(t[11], 2))] = toupper(t[1])
         counters++
     }
 }

@@ -99,6 +99,7 @@ impl TimerSets {
     }
 
     // What stops.
+    #[tactic(auto, unfolding(crate::specs::Carried::stopped_of))]
     pub(crate) fn stopped(self) -> Timers
         ensures { result ≡ stopped_of self }
     {
@@ -110,6 +111,7 @@ impl TimerSets {
     }
 
     // What runs afterwards.
+    #[tactic(auto, unfolding(crate::specs::Carried::running_after))]
     pub(crate) fn running_after(self) -> Timers
         ensures { result ≡ running_after self }
     {

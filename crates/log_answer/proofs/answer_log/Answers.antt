@@ -1,7 +1,6 @@
 -- No room, or the answer at the front. Assumes nothing.
-use Rattle.std.proofs.Common.{◌≡◌, ◌∙◌, sym, leb-true}
-use Rattle.writer.specs.declared.Written.{Written}
-use Rattle.log_answer.proofs.Room.{Gives, no_room, room}
+use Rattle.std.proofs.Common.{◌∙◌, sym}
+use Rattle.log_answer.proofs.Room.{no_room, room}
 use Rattle.log_answer.proofs.answer_log.Goals as goal
 
 pub returns-then-not-has_room-clause-value : goal.returns-then-not-has_room-clause-value

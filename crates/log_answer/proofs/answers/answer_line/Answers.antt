@@ -1,5 +1,5 @@
 -- The line is copied, or three bytes are stored. Assumes nothing.
-use Rattle.std.proofs.Common.{◌≡◌, ◌≤◌, ℕ, List, ◌++◌, ◌∙◌, length, length-set, refl, sym, ap, arith}
+use Rattle.std.proofs.Common.{◌≡◌, ◌≤◌, ℕ, List, ◌∙◌, length, length-set, sym, ap, arith}
 use Rattle.std.proofs.lemmas.List.Edits.{sets-eq}
 use Rattle.std.proofs.Math.Seq.{length-take-le}
 use Rattle.reader.specs.Line.{line_number}

@@ -1,6 +1,5 @@
 -- A step is refused by a test, discarded, refused by R1, refused by the writer, or carried out. Assumes nothing.
-use Rattle.std.proofs.Common.{◌≡◌, ℕ, Bool, false, true, List, sym, ap, ◌∙◌}
-use Rattle.frame.specs.declared.Media.{Media}
+use Rattle.std.proofs.Common.{◌≡◌, ℕ, Bool, List, sym, ap, ◌∙◌}
 use Rattle.writer.specs.declared.Written.{Written}
 use Rattle.call.specs.declared.Settings.{Settings}
 use Rattle.call.specs.declared.Input.{Input}

@@ -112,8 +112,8 @@ phase-back cfp3 = refl
 phase-back cfp4 = refl
 
 -- under its limit a counter gets one more
-one_more : (limit n : ℕ) → n < limit → one_more limit n ≡ suc n
-one_more limit n h = rw (lt-ltb n limit h) (omega arith)
+one-more : (limit n : ℕ) → n < limit → one_more limit n ≡ suc n
+one-more limit n h = rw (lt-ltb n limit h) (omega arith)
 
 -- a line has bytes
 pub line-bytes : (k : Counter) (s : Settings) (p : PrivateRecord) → length (line_repeated k p.call) ≡ 0 → ⊥
@@ -205,7 +205,7 @@ module _ (k : Counter) (s : Settings) (p : PrivateRecord) (media : Media) (v : V
         told.0 ∙ ap length line,
         told.1 ∙ ap (λ (l : List ℕ). at_front l out) line,
         ap phase_of done ∙ (λ j. phase_in ((sym same.0 ∙ state) j) (running j)) ∙ phase-back k,
-        ap (λ (q : PrivateRecord). count_in k q.counters) done ∙ again-value k p.state s.limits p.counters running ∙ one_more _ _ under,
+        ap (λ (q : PrivateRecord). count_in k q.counters) done ∙ again-value k p.state s.limits p.counters running ∙ one-more _ _ under,
         ap (λ (q : PrivateRecord). q.call) done ∙ sym same.1,
         row_done s p out_of out n ∙ ap row_number r,
       )

@@ -2,7 +2,6 @@
 use Rattle.std.specs.Prelude.{ℕ, ◌+◌, Bool, cond, not, ◌&&◌, ◌||◌, eqb, ltb}
 use Rattle.frame.specs.declared.Media.{Media}
 use Rattle.frame.specs.declared.Parties.{Parties}
-use Rattle.frame.specs.declared.Message.{Message}
 use Rattle.frame.specs.declared.Message.TheVariants.{Ringing, Accept, Reject, Release, ReleaseAck, AcceptAck}
 use Rattle.call.specs.Settings.{restricted}
 use Rattle.call.specs.Request.{as_message, request_of}

@@ -63,6 +63,7 @@ impl CounterFacts {
 }
 
 // The three counters.
+#[tactic(auto, unfolding(crate::specs::Carried::counters_after))]
 fn counters_after(
     running: Timers,
     started: Timers,
@@ -197,6 +198,7 @@ pub struct Carried {
 }
 
 // Carries out a row.
+#[tactic(auto, unfolding(crate::specs::Carried::carry_out))]
 pub(crate) fn carry_out(
     settings: Settings,
     stored: PrivateRecord,

@@ -65,6 +65,7 @@ pub(crate) fn state_changes(state: State, to: State) -> bool
 }
 
 // What starts: what the row starts, and TFP7 where it enters P1.
+#[tactic(auto, unfolding(crate::specs::Carried::started_of))]
 pub(crate) fn started(state: State, to: State, start: Timers) -> Timers
     ensures { result ≡ started_of state to start }
 {
@@ -122,6 +123,7 @@ impl TimerSets {
     }
 
     // What stops.
+    #[tactic(auto, unfolding(crate::specs::Carried::stopped_of))]
     pub(crate) fn stopped(self) -> Timers
         ensures { result ≡ stopped_of self }
     {
@@ -136,6 +138,7 @@ impl TimerSets {
     }
 
     // What runs afterwards.
+    #[tactic(auto, unfolding(crate::specs::Carried::running_after))]
     pub(crate) fn running_after(self) -> Timers
         ensures { result ≡ running_after self }
     {

@@ -71,10 +71,8 @@ pub(crate) fn value(cabs: &[u64; BOTH], cab: usize, first: usize, place: usize) 
 // The numbers that a cab has from the first of a list on.
 pub(crate) fn numbers_of(cabs: &[u64; BOTH], cab: usize, first: usize) -> [u64; 16] {
     let mut numbers = [0u64; 16];
-    let mut place = 0;
-    while place < 16 {
+    for place in 0..16 {
         numbers[place] = value(cabs, cab, first, place);
-        place += 1;
     }
     numbers
 }
@@ -88,8 +86,7 @@ pub(crate) fn set_named(
     named: [u64; 16],
 ) -> [u64; BOTH] {
     let mut changed = cabs;
-    let mut place = 0;
-    while place < 16 {
+    for place in 0..16 {
         let told = named[place];
         let at = number_place(cab, first, place);
         if told > 0 {
@@ -97,7 +94,6 @@ pub(crate) fn set_named(
                 changed[at] = told - 1;
             }
         }
-        place += 1;
     }
     changed
 }
@@ -111,15 +107,13 @@ pub(crate) fn set_all(
     numbers: [u64; 16],
 ) -> [u64; BOTH] {
     let mut changed = cabs;
-    let mut place = 0;
-    while place < 16 {
+    for place in 0..16 {
         let at = number_place(cab, first, place);
         if place < names {
             if at < BOTH {
                 changed[at] = numbers[place];
             }
         }
-        place += 1;
     }
     changed
 }
@@ -160,10 +154,8 @@ pub(crate) fn keep_sent(
 ) -> [u8; BOTH_LINES] {
     let first = line_place(cab);
     let mut kept = sent;
-    let mut i = 0;
-    while i < MOST_LENT {
+    for i in 0..MOST_LENT {
         kept[first + i] = lent[i];
-        i += 1;
     }
     kept
 }

@@ -81,7 +81,7 @@ pub(crate) const TFG4: usize = 24;
 pub(crate) const TFG6: usize = 25;
 
 // What a command asks for, with the place behind its words; or what is wrong, with the place of the wrong word.
-#[derive(Drop)]
+#[derive(Clone, Copy)]
 pub(crate) struct Command {
     pub(crate) asked: usize,
     pub(crate) complaint: usize,

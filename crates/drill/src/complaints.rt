@@ -53,7 +53,7 @@ this name was given before
 not a value of this name";
 
 // What is wrong, and where the word begins.
-#[derive(Drop)]
+#[derive(Clone, Copy)]
 pub(crate) struct Fault {
     pub(crate) complaint: usize,
     pub(crate) at: usize,
@@ -76,10 +76,10 @@ fn column(at: usize) -> u64 {
 }
 
 // Tells what is wrong with the command of this number, at a place of its line; whether that could be written.
-pub(crate) fn complain(command: usize, complaint: usize, place: usize) -> bool {
+pub(crate) fn complain(rt: &impl Print, command: usize, complaint: usize, place: usize) -> bool {
     let words = WORDS;
     let mut line = put_number(put_text(Line::empty(), b"! line "), command as u64);
     line = put_number(put_text(line, b", column "), column(place));
     line = put_text(line, b": ");
-    say(put_text(line, nth_line(&words, complaint)))
+    say(rt, put_text(line, nth_line(&words, complaint)))
 }

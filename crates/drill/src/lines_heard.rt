@@ -12,6 +12,9 @@ use crate::words::{find, next_word, part, place_in, word_at};
 use call::{Event, Input};
 use reader::Read;
 
+// Room for a line of as many digits as a script has bytes at most.
+const ROOM: usize = 65_536;
+
 // The place of the reader in the list of who answers.
 const READER: usize = 2;
 
@@ -64,10 +67,8 @@ fn put_byte(out: &mut [u8], at: usize, byte: u8) -> usize {
 // Puts digits at the front of a buffer; gives the place behind them.
 fn put_digits(out: &mut [u8], digits: &[u8]) -> usize {
     let mut end = 0;
-    let mut i = 0;
-    while i < digits.len() {
-        end = put_byte(out, end, digits[i]);
-        i += 1;
+    for digit in digits {
+        end = put_byte(out, end, *digit);
     }
     end
 }
@@ -82,26 +83,27 @@ fn put_line(out: &mut [u8], digits: &[u8], ended: bool) -> usize {
 }
 
 // Tells what the reader or the chooser answers, a number and perhaps a line; whether that could be written.
-fn tell_answer(command: usize, cab: usize, machine: usize, number: u8, chosen: &[u8]) -> bool {
+fn tell_answer(rt: &impl Print, command: usize, cab: usize, machine: usize, number: u8, chosen: &[u8]) -> bool {
     let mut line = beginning(command, cab, machine, number);
     line = put_text(line, b" - - - - - - -");
     line = put_field(line, chosen);
-    say(put_text(line, b" - -"))
+    say(rt, put_text(line, b" - -"))
 }
 
 // Has both machines of a cab take a step.
-fn take_both_steps(shift: Shift, cab: usize, command: usize, input: Input) -> Shift {
-    let stepped = take_step(shift, cab, command, true, input);
-    take_step(stepped, cab, command, false, input)
+fn take_both_steps(rt: &impl Print, shift: Shift, cab: usize, command: usize, input: Input) -> Shift {
+    let stepped = take_step(rt, shift, cab, command, true, input);
+    take_step(rt, stepped, cab, command, false, input)
 }
 
 // Has both machines of a cab take a step on a line, unless the reader refuses it.
-fn hear(shift: Shift, cab: usize, command: usize, line: &[u8], named: &[u64; 16]) -> Shift {
+fn hear(rt: &impl Print, shift: Shift, cab: usize, command: usize, line: &[u8], named: &[u64; 16]) -> Shift {
     let reading = reader::read_line(line);
     let media = reading.media;
     let read = reading.read;
     match read {
         Read::Readable(message) => take_both_steps(
+            rt,
             shift,
             cab,
             command,
@@ -109,21 +111,22 @@ fn hear(shift: Shift, cab: usize, command: usize, line: &[u8], named: &[u64; 16]
         ),
         Read::Refused(number) => answered(
             shift,
-            tell_answer(command, cab, READER, number, part(line, 0, 0)),
+            tell_answer(rt, command, cab, READER, number, part(line, 0, 0)),
         ),
     }
 }
 
 // Has a cab hear the line that a word stands for.
-fn hear_word(shift: Shift, cab: usize, command: usize, word: &[u8], named: &[u64; 16]) -> Shift {
+fn hear_word(rt: &impl Print, shift: Shift, cab: usize, command: usize, word: &[u8], named: &[u64; 16]) -> Shift {
     let sent = shift.sent;
-    let mut heard = io::large_buffer();
+    let mut heard = [0u8; ROOM];
     let length = put_line(&mut heard, digits_of(&sent, word), unless_no(named, 2));
-    hear(shift, cab, command, part(&heard, 0, length), named)
+    hear(rt, shift, cab, command, part(&heard, 0, length), named)
 }
 
 // Plays the command `hears` from the words behind it.
 pub(crate) fn play_hears(
+    rt: &impl Print,
     shift: Shift,
     cab: usize,
     command: usize,
@@ -135,26 +138,27 @@ pub(crate) fn play_hears(
     let word = word_at(line, next);
     let complaint = line_complaint(&sent, word);
     if complaint != NOTHING {
-        return answered(shift, complain(command, complaint, next.from));
+        return answered(shift, complain(rt, command, complaint, next.from));
     }
     let mut named = [0u64; 16];
     let fault = take_names_of(HEARS, line, next.to, &mut named);
     if fault.complaint != NOTHING {
-        return answered(shift, complain(command, fault.complaint, fault.at));
+        return answered(shift, complain(rt, command, fault.complaint, fault.at));
     }
-    hear_word(shift, cab, command, word, &named)
+    hear_word(rt, shift, cab, command, word, &named)
 }
 
 // Has the chooser choose between the lines that two words stand for; whether its answer could be written.
 fn choose<'a>(
+    rt: &impl Print,
     sent: &'a [u8; BOTH_LINES],
     cab: usize,
     command: usize,
     first: &'a [u8],
     second: &'a [u8],
 ) -> bool {
-    let mut one = io::large_buffer();
-    let mut other = io::large_buffer();
+    let mut one = [0u8; ROOM];
+    let mut other = [0u8; ROOM];
     let one_length = put_line(&mut one, digits_of(sent, first), true);
     let other_length = put_line(&mut other, digits_of(sent, second), true);
     let one_line = part(&one, 0, one_length);
@@ -162,6 +166,7 @@ fn choose<'a>(
     let number = chooser::choose_number(one_line, other_line);
     let chosen = chooser::choose(one_line, other_line);
     tell_answer(
+        rt,
         command,
         cab,
         CHOOSER,
@@ -172,6 +177,7 @@ fn choose<'a>(
 
 // Plays the command `chooses` from the words behind it; whether all could be written.
 pub(crate) fn play_chooses<'a>(
+    rt: &impl Print,
     sent: &'a [u8; BOTH_LINES],
     cab: usize,
     command: usize,
@@ -181,19 +187,20 @@ pub(crate) fn play_chooses<'a>(
     let first = next_word(line, at);
     let of_first = line_complaint(sent, word_at(line, first));
     if of_first != NOTHING {
-        return complain(command, of_first, first.from);
+        return complain(rt, command, of_first, first.from);
     }
     let second = next_word(line, first.to);
     let of_second = line_complaint(sent, word_at(line, second));
     if of_second != NOTHING {
-        return complain(command, of_second, second.from);
+        return complain(rt, command, of_second, second.from);
     }
     let mut named = [0u64; 16];
     let fault = take_names_of(CHOOSES, line, second.to, &mut named);
     if fault.complaint != NOTHING {
-        return complain(command, fault.complaint, fault.at);
+        return complain(rt, command, fault.complaint, fault.at);
     }
     choose(
+        rt,
         sent,
         cab,
         command,

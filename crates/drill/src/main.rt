@@ -1,6 +1,8 @@
 // The program that plays a script of two cabs through the machines, step by step: docs/DRILL.md has its language.
 #![tactic(auto)]
 
+ghost use Rattle.std.specs.Prelude.{◌≤◌, IfOk};
+
 mod cabs;
 mod commands;
 mod complaints;
@@ -17,68 +19,83 @@ mod text;
 mod words;
 
 use cabs::Shift;
-use libc::{STDERR_FILENO, STDIN_FILENO, STDOUT_FILENO};
+use std::io;
+use std::io::Read;
 
 // How many bytes of a script are read at most.
 const MOST: usize = 65_536;
 
-// What comes behind so many bytes of standard input: 0 its end, above 0 more of it, below 0 a read that failed.
-fn read_behind(length: usize) -> isize {
-    if length < MOST && libc::isatty(STDIN_FILENO) == 1 {
-        // at a terminal the end would have to be typed twice
-        return 0;
+// Reads standard input to its first end, or as far as there is room; how many bytes came. A read that fails is told.
+fn read_full(input: &mut impl Read, room: &mut [u8; MOST]) -> io::Result<usize>
+    ensures { IfOk result (λ length. length ≤ 65536) }
+{
+    let mut length = 0;
+    for _ in 0..MOST {
+        let got = input.read(&mut room[length..])?;
+        if got == 0 {
+            break;
+        }
+        length += got;
+    }
+    Ok(length)
+}
+
+// Whether more of standard input comes behind so many bytes that were read: fewer than are played end where it does,
+// and at a terminal that end would have to be typed twice.
+fn read_behind(input: &mut impl Read, length: usize) -> io::Result<bool> {
+    if length < MOST {
+        return Ok(false);
     }
     let mut more = [0u8; 1];
-    let got = libc::read(STDIN_FILENO, &mut more);
-    if got <= 0 || length == MOST {
-        return got;
-    }
-    if libc::lseek(STDIN_FILENO, 0, libc::SEEK_CUR) >= 0 {
-        // a file that has grown since its end was read
-        return 0;
-    }
-    // a pipe from which reading had failed, and goes on
-    -1
+    let got = input.read(&mut more)?;
+    Ok(got > 0)
 }
 
 // Says that the script was too long; whether that could be written.
-fn say_cut(cut: bool) -> bool {
+fn say_cut(rt: &impl Print, cut: bool) -> bool {
     if !cut {
         return true;
     }
-    io::write_all(
-        STDOUT_FILENO,
-        b"! the script has more than 65536 bytes: only the lines that end within them were played\n",
-    )
+    rt.println("! the script has more than 65536 bytes: only the lines that end within them were played")
+        .is_ok()
 }
 
 // Says the names of the fields; whether that could be written.
-fn say_fields() -> bool {
-    io::write_all(
-        STDOUT_FILENO,
-        b"# command cab machine number row before after stopped started running counters call sent untouched\n",
-    )
+fn say_fields(rt: &impl Print) -> bool {
+    rt.println("# command cab machine number row before after stopped started running counters call sent untouched")
+        .is_ok()
 }
 
 // Plays the script and tells how it ends; whether all of that could be written.
-fn play(script: &[u8], cut: bool) -> bool {
-    let mut shift = Shift::begun(say_fields());
+fn play(rt: &impl Print, script: &[u8], cut: bool) -> bool {
+    let mut shift = Shift::begun(say_fields(rt));
     if shift.written {
-        shift = playing::play(script, cut, shift);
+        shift = playing::play(rt, script, cut, shift);
     }
     let cabs = shift.cabs;
-    shift.written && say_cut(cut) && outcome::tell_outcome(&cabs)
+    shift.written && say_cut(rt, cut) && outcome::tell_outcome(rt, &cabs)
 }
 
-// Plays the script from standard input, which is cut behind 65,536 bytes. Where it cannot be read to there, or to its
-// end, nothing is played.
-fn main() {
-    let mut script = io::large_buffer();
-    let length = io::read_full(STDIN_FILENO, &mut script);
-    let behind = read_behind(length);
-    if behind < 0 {
-        io::write_all(STDERR_FILENO, b"drill: standard input could not be read\n");
-    } else if !play(&script[..length], behind > 0) {
-        io::write_all(STDERR_FILENO, b"drill: the answer could not be written\n");
+// Plays the script from standard input, which is cut behind 65,536 bytes, and says where the answer could not be
+// written; a failed read ends it ahead of that.
+fn play_input(rt: &HostRuntime) -> io::Result<()> {
+    let mut script = [0u8; MOST];
+    let length = read_full(&mut rt.stdin(), &mut script)?;
+    let more = read_behind(&mut rt.stdin(), length)?;
+    if !play(rt, &script[..length], more) {
+        say(rt, "drill: the answer could not be written");
+    }
+    Ok(())
+}
+
+// Says a line on standard error; where that fails there is nobody to tell.
+fn say(rt: &impl Eprint, line: &str) {
+    let _ = rt.eprintln(line);
+}
+
+// Plays the script from standard input. Where it cannot be read to its end, or to where it is cut, nothing is played.
+fn main(rt: HostRuntime) {
+    if play_input(&rt).is_err() {
+        say(&rt, "drill: standard input could not be read");
     }
 }

@@ -74,10 +74,8 @@ fn number_of(digits: &[u8], hexadecimal: bool) -> u64 {
         return TOO_LARGE;
     }
     let mut number = 0;
-    let mut at = 0;
-    while at < digits.len() {
-        number = longer(number, digit_of(digits[at]), hexadecimal);
-        at += 1;
+    for digit in digits {
+        number = longer(number, digit_of(*digit), hexadecimal);
     }
     number
 }
@@ -174,13 +172,11 @@ pub(crate) fn take_names(
 // The values that were named, each at the place of its name in the list; 0 where it was not.
 pub(crate) fn values_of(named: &[u64; 16]) -> [u64; 16] {
     let mut values = [0u64; 16];
-    let mut place = 0;
-    while place < 16 {
+    for place in 0..16 {
         let told = named[place];
         if told > 0 {
             values[place] = told - 1;
         }
-        place += 1;
     }
     values
 }

@@ -5,9 +5,9 @@ use crate::text::{Line, put_text, say};
 use crate::words::nth_line;
 
 // Tells both records of a cab; whether that could be written.
-fn tell_cab(cabs: &[u64; BOTH], cab: usize) -> bool {
-    let told = tell_record(cab, true, numbers_of(cabs, cab, PRIVATE));
-    tell_record(cab, false, numbers_of(cabs, cab, GROUP)) & told
+fn tell_cab(rt: &impl Print, cabs: &[u64; BOTH], cab: usize) -> bool {
+    let told = tell_record(rt, cab, true, numbers_of(cabs, cab, PRIVATE));
+    tell_record(rt, cab, false, numbers_of(cabs, cab, GROUP)) & told
 }
 
 // How the calls of two cabs may stand to each other, in words.
@@ -50,12 +50,10 @@ fn same_value(cabs: &[u64; BOTH], first: usize, place: usize) -> bool {
 
 // Whether both cabs have the same numbers, from one place of a list up to another.
 fn same_values(cabs: &[u64; BOTH], first: usize, from: usize, to: usize) -> bool {
-    let mut place = from;
-    while place < to {
+    for place in from..to {
         if !same_value(cabs, first, place) {
             return false;
         }
-        place += 1;
     }
     true
 }
@@ -79,9 +77,9 @@ fn standing(
 }
 
 // Tells how the calls stand to each other; whether that could be written.
-fn tell_standing(machine: &[u8], standing: usize) -> bool {
+fn tell_standing(rt: &impl Print, machine: &[u8], standing: usize) -> bool {
     let standings = STANDINGS;
-    say(put_text(
+    say(rt, put_text(
         put_text(Line::empty(), machine),
         nth_line(&standings, standing),
     ))
@@ -89,9 +87,9 @@ fn tell_standing(machine: &[u8], standing: usize) -> bool {
 
 // Tells how a shift ends, where a cab is in a private call in P4 and in a group call in S3; whether that could be
 // written.
-pub(crate) fn tell_outcome(cabs: &[u64; BOTH]) -> bool {
-    let mut told = tell_cab(cabs, 0);
-    told = tell_cab(cabs, 1) & told;
-    told = tell_standing(b"Private call: ", standing(cabs, PRIVATE, 4, 10, 10, 16)) & told;
-    tell_standing(b"Group call: ", standing(cabs, GROUP, 1, 5, 4, 13)) & told
+pub(crate) fn tell_outcome(rt: &impl Print, cabs: &[u64; BOTH]) -> bool {
+    let mut told = tell_cab(rt, cabs, 0);
+    told = tell_cab(rt, cabs, 1) & told;
+    told = tell_standing(rt, b"Private call: ", standing(cabs, PRIVATE, 4, 10, 10, 16)) & told;
+    tell_standing(rt, b"Group call: ", standing(cabs, GROUP, 1, 5, 4, 13)) & told
 }

@@ -58,6 +58,7 @@ fn is_private(asked: usize) -> bool {
 
 // Plays a command that takes names alone.
 fn play_named(
+    rt: &impl Print,
     shift: Shift,
     cab: usize,
     command: usize,
@@ -68,7 +69,7 @@ fn play_named(
     let mut named = [0u64; 16];
     let fault = take_names_of(asked, line, at, &mut named);
     if fault.complaint != NOTHING {
-        return answered(shift, complain(command, fault.complaint, fault.at));
+        return answered(shift, complain(rt, command, fault.complaint, fault.at));
     }
     if sets_by_hand(asked) {
         let cabs = shift.cabs;
@@ -80,6 +81,7 @@ fn play_named(
         };
     }
     take_step(
+        rt,
         shift,
         cab,
         command,
@@ -89,36 +91,36 @@ fn play_named(
 }
 
 // Plays the command of a cab from the words behind the cab's name.
-fn play_command(shift: Shift, cab: usize, command: usize, line: &[u8], at: usize) -> Shift {
+fn play_command(rt: &impl Print, shift: Shift, cab: usize, command: usize, line: &[u8], at: usize) -> Shift {
     let sent = shift.sent;
     let read = command_in(line, at);
     if read.complaint != NOTHING {
-        return answered(shift, complain(command, read.complaint, read.at));
+        return answered(shift, complain(rt, command, read.complaint, read.at));
     }
     let asked = read.asked;
     match asked {
-        commands::HEARS => play_hears(shift, cab, command, line, read.at),
-        commands::CHOOSES => answered(shift, play_chooses(&sent, cab, command, line, read.at)),
-        _ => play_named(shift, cab, command, asked, line, read.at),
+        commands::HEARS => play_hears(rt, shift, cab, command, line, read.at),
+        commands::CHOOSES => answered(shift, play_chooses(rt, &sent, cab, command, line, read.at)),
+        _ => play_named(rt, shift, cab, command, asked, line, read.at),
     }
 }
 
 // Plays a line of the script, without its line end.
-fn play_line(shift: Shift, command: usize, line: &[u8]) -> Shift {
+fn play_line(rt: &impl Print, shift: Shift, command: usize, line: &[u8]) -> Shift {
     let first = next_word(line, 0);
     if first.from == first.to {
         return shift;
     }
     let cab = place_in(b"a b", word_at(line, first));
     if cab == NOWHERE {
-        return answered(shift, complain(command, CAB, first.from));
+        return answered(shift, complain(rt, command, CAB, first.from));
     }
-    play_command(shift, cab, command, line, first.to)
+    play_command(rt, shift, cab, command, line, first.to)
 }
 
 // Plays every line of a script, as far as all can be written, but of a script that was cut not the piece that the cut
 // left unended.
-pub(crate) fn play(script: &[u8], cut: bool, shift: Shift) -> Shift {
+pub(crate) fn play(rt: &impl Print, script: &[u8], cut: bool, shift: Shift) -> Shift {
     let mut played = shift;
     let mut at = 0;
     let mut command = 0;
@@ -129,9 +131,9 @@ pub(crate) fn play(script: &[u8], cut: bool, shift: Shift) -> Shift {
             if cut {
                 return played;
             }
-            return play_line(played, command, part(script, at, end));
+            return play_line(rt, played, command, part(script, at, end));
         }
-        played = play_line(played, command, part(script, at, end));
+        played = play_line(rt, played, command, part(script, at, end));
         if !played.written {
             return played;
         }

@@ -121,6 +121,7 @@ fn lines_behind(sent: [u8; BOTH_LINES], step: Step, buffer: &[u8; MOST_LENT]) ->
 
 // Takes a step of the private or of the group machine of a cab, and tells it.
 pub(crate) fn take_step(
+    rt: &impl Print,
     shift: Shift,
     cab: usize,
     command: usize,
@@ -131,7 +132,7 @@ pub(crate) fn take_step(
     let sent = shift.sent;
     let mut buffer = [UNTOUCHED; MOST_LENT];
     let step = step_on_front(&cabs, cab, command, private, input, &mut buffer);
-    let told = tell_step(step, part(&buffer, 0, length_of(&cabs, cab)));
+    let told = tell_step(rt, step, part(&buffer, 0, length_of(&cabs, cab)));
     Shift {
         cabs: numbers_behind(cabs, step),
         sent: lines_behind(sent, step, &buffer),

@@ -19,7 +19,7 @@ const CALL: usize = 2;
 
 // A step of the private or of the group machine: the number of its command, its cab, the place of the state ahead of
 // it, and what it told: the record and the timers as numbers in the order of the record's list.
-#[derive(Drop)]
+#[derive(Clone, Copy)]
 pub(crate) struct Step {
     pub(crate) command: usize,
     pub(crate) cab: usize,
@@ -123,13 +123,11 @@ fn put_part(line: Line, private: bool, asked: usize, numbers: [u64; 16]) -> Line
     let to = part_end(private, asked);
     let mut longer = line;
     let mut ahead = b' ';
-    let mut place = 0;
-    while place < 16 {
+    for place in 0..16 {
         let number = numbers[place];
         let is_in = (place >= from) & (place < to) & ((asked != TIMERS) | (number == 1));
         longer = put_asked(longer, ahead, private, asked, place, number, is_in);
         ahead = separator(ahead, is_in);
-        place += 1;
     }
     if ahead == b' ' {
         return put_nothing(longer);
@@ -161,14 +159,12 @@ fn put_rest(line: Line, private: bool, numbers: [u64; 16]) -> Line {
 
 // How many bytes at the end of a lent buffer are as they were.
 fn untouched(lent: &[u8]) -> usize {
-    let mut count = 0;
-    while count < lent.len() {
+    for count in 0..lent.len() {
         if lent[lent.len() - 1 - count] != UNTOUCHED {
             return count;
         }
-        count += 1;
     }
-    count
+    lent.len()
 }
 
 // The length of a line without its line end.
@@ -177,7 +173,7 @@ fn digits(length: usize) -> usize {
 }
 
 // Tells a step on a lent buffer; whether that could be written.
-pub(crate) fn tell_step(step: Step, lent: &[u8]) -> bool {
+pub(crate) fn tell_step(rt: &impl Print, step: Step, lent: &[u8]) -> bool {
     let private = step.private;
     let next = step.next;
     let stop = step.stop;
@@ -190,14 +186,14 @@ pub(crate) fn tell_step(step: Step, lent: &[u8]) -> bool {
     line = put_part(line, private, TIMERS, start);
     line = put_rest(line, private, next);
     line = put_field(line, part(lent, 0, digits(step.length)));
-    say(put_number(put(line, b' '), untouched(lent) as u64))
+    say(rt, put_number(put(line, b' '), untouched(lent) as u64))
 }
 
 // Tells a record of a cab at the end; whether that could be written.
-pub(crate) fn tell_record(cab: usize, private: bool, numbers: [u64; 16]) -> bool {
+pub(crate) fn tell_record(rt: &impl Print, cab: usize, private: bool, numbers: [u64; 16]) -> bool {
     let mut line = put_text(Line::empty(), b"end");
     line = put_word(line, b' ', CABS, cab);
     line = put_word(line, b' ', MACHINES, either(private, 0, 1));
     line = put_state(line, private, numbers[0]);
-    say(put_rest(line, private, numbers))
+    say(rt, put_rest(line, private, numbers))
 }

@@ -1,6 +1,7 @@
 // A line of text that is put together piece by piece: each function gives the line with its piece behind it.
 use crate::words::part;
-use libc::STDOUT_FILENO;
+use std::fmt;
+use std::fmt::Write;
 
 // More bytes than any line of the answer has.
 const LONGEST: usize = 1024;
@@ -20,38 +21,42 @@ impl Line {
             length: 0,
         }
     }
+
+    // One byte more; nothing where the line is full.
+    fn push(&mut self, byte: u8) {
+        let length = self.length;
+        if length < LONGEST {
+            self.bytes[length] = byte;
+            self.length = length + 1;
+        }
+    }
+
+    // A text more, as far as there is room.
+    fn push_text(&mut self, text: &[u8]) {
+        for byte in text {
+            self.push(*byte);
+        }
+    }
+}
+
+// What std writes of a number goes behind the line.
+impl Write for Line {
+    fn write_str(&mut self, text: &str) -> fmt::Result {
+        self.push_text(text.as_bytes());
+        Ok(())
+    }
 }
 
 // One byte; nothing where the line is full.
-pub(crate) fn put(line: Line, byte: u8) -> Line {
-    let mut bytes = line.bytes;
-    let length = line.length;
-    if length < LONGEST {
-        bytes[length] = byte;
-        return Line {
-            bytes: bytes,
-            length: length + 1,
-        };
-    }
+pub(crate) fn put(mut line: Line, byte: u8) -> Line {
+    line.push(byte);
     line
 }
 
 // A text.
-pub(crate) fn put_text(line: Line, text: &[u8]) -> Line {
-    let mut bytes = line.bytes;
-    let mut end = line.length;
-    let mut i = 0;
-    while i < text.len() {
-        if end < LONGEST {
-            bytes[end] = text[i];
-            end += 1;
-        }
-        i += 1;
-    }
-    Line {
-        bytes: bytes,
-        length: end,
-    }
+pub(crate) fn put_text(mut line: Line, text: &[u8]) -> Line {
+    line.push_text(text);
+    line
 }
 
 // A field that has nothing.
@@ -68,22 +73,19 @@ pub(crate) fn put_field(line: Line, text: &[u8]) -> Line {
 }
 
 // A number in decimal.
-pub(crate) fn put_number(line: Line, number: u64) -> Line {
-    let mut digits = [0u8; 20];
-    let count = io::decimal(number, &mut digits);
-    put_text(line, &digits[..count])
+pub(crate) fn put_number(mut line: Line, number: u64) -> Line {
+    let _ = write!(line, "{number}");
+    line
 }
 
 // A number in eight hexadecimal digits or more, as a script would have it.
-pub(crate) fn put_hexadecimal(line: Line, number: u64) -> Line {
-    let mut digits = [0u8; 16];
-    let count = io::hex(number, 8, &mut digits);
-    put_text(put(put(line, b'0'), b'x'), &digits[..count])
+pub(crate) fn put_hexadecimal(mut line: Line, number: u64) -> Line {
+    let _ = write!(line, "0x{number:08x}");
+    line
 }
 
 // Writes a line, with a line end behind it; whether that could be done.
-pub(crate) fn say(line: Line) -> bool {
+pub(crate) fn say(rt: &impl Print, line: Line) -> bool {
     let ended = put(line, b'\n');
-    let bytes = ended.bytes;
-    io::write_all(STDOUT_FILENO, part(&bytes, 0, ended.length))
+    rt.write_all(part(&ended.bytes, 0, ended.length)).is_ok()
 }

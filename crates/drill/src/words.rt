@@ -2,7 +2,7 @@
 ghost use Rattle.std.specs.Prelude.{◌≤◌};
 
 // Where a word stands: its first byte, and the byte behind its last. A word that is missing has no bytes.
-#[derive(Drop)]
+#[derive(Clone, Copy)]
 pub(crate) struct Place {
     pub(crate) from: usize,
     pub(crate) to: usize,
@@ -72,17 +72,7 @@ pub(crate) fn word_at<'a>(text: &'a [u8], place: Place) -> &'a [u8] {
 
 // Whether two texts are the same.
 pub(crate) fn same(one: &[u8], other: &[u8]) -> bool {
-    if one.len() != other.len() {
-        return false;
-    }
-    let mut i = 0;
-    while i < one.len() && i < other.len() {
-        if one[i] != other[i] {
-            return false;
-        }
-        i += 1;
-    }
-    true
+    one == other
 }
 
 // The place of a word in a list of fewer than 32 words, from 0 on; NOWHERE if it is missing there.
@@ -90,8 +80,7 @@ pub(crate) fn place_in(list: &[u8], word: &[u8]) -> usize
     ensures { result ≤ 32 }
 {
     let mut at = 0;
-    let mut count = 0;
-    while count < NOWHERE {
+    for count in 0..NOWHERE {
         let next = next_word(list, at);
         if next.from == next.to {
             return NOWHERE;
@@ -100,7 +89,6 @@ pub(crate) fn place_in(list: &[u8], word: &[u8]) -> usize
             return count;
         }
         at = next.to;
-        count += 1;
     }
     NOWHERE
 }
@@ -108,10 +96,8 @@ pub(crate) fn place_in(list: &[u8], word: &[u8]) -> usize
 // The word at a place of a list, from 0 on.
 pub(crate) fn nth_word(list: &[u8], place: usize) -> Place {
     let mut word = next_word(list, 0);
-    let mut count = 0;
-    while count < place {
+    for _ in 0..place {
         word = next_word(list, word.to);
-        count += 1;
     }
     word
 }
@@ -139,13 +125,11 @@ pub(crate) fn nth_line<'a>(text: &'a [u8], number: usize) -> &'a [u8] {
 // Where the line of a text with this number begins.
 fn line_start(text: &[u8], number: usize) -> usize {
     let mut at = 0;
-    let mut count = 0;
-    while count < number {
+    for _ in 0..number {
         let end = find(text, at, b'\n');
         if end < text.len() {
             at = end + 1;
         }
-        count += 1;
     }
     at
 }

@@ -59,6 +59,7 @@ fn call_good(settings: Settings, state: State, held: GroupCall, media: Media) ->
 }
 
 // Whether a record is well formed under the settings.
+#[tactic(auto, unfolding(crate::specs::Formed::is_well_formed))]
 pub fn well_formed(settings: Settings, stored: GroupRecord) -> bool
     ensures { result ≡ is_well_formed settings stored }
 {

@@ -1,7 +1,10 @@
-// The program that answers a log: everything that matters is in `log`.
+// The program that answers a log: everything that matters is in `log_answer`.
 #![tactic(auto)]
 
-use libc::{STDERR_FILENO, STDIN_FILENO, STDOUT_FILENO};
+ghost use Rattle.std.specs.Prelude.{◌≤◌, IfOk};
+
+use std::io;
+use std::io::{Read, Write};
 
 // How many bytes are answered at most.
 const MOST: usize = 65_536;
@@ -9,52 +12,62 @@ const MOST: usize = 65_536;
 // Room for the longest answer to as many bytes.
 const ROOM: usize = 3 * MOST;
 
-// What comes behind so many bytes of standard input: 0 its end, above 0 more of it, below 0 a read that failed.
-fn read_behind(length: usize) -> isize {
-    if length < MOST && libc::isatty(STDIN_FILENO) == 1 {
-        // at a terminal the end would have to be typed twice
-        return 0;
+// Reads standard input to its first end, or as far as there is room; how many bytes came. A read that fails is told.
+fn read_full(input: &mut impl Read, room: &mut [u8; MOST]) -> io::Result<usize>
+    ensures { IfOk result (λ length. length ≤ 65536) }
+{
+    let mut length = 0;
+    for _ in 0..MOST {
+        let got = input.read(&mut room[length..])?;
+        if got == 0 {
+            break;
+        }
+        length += got;
+    }
+    Ok(length)
+}
+
+// Whether more of standard input comes behind so many bytes that were read: fewer than are answered end where it does,
+// and at a terminal that end would have to be typed twice.
+fn read_behind(input: &mut impl Read, length: usize) -> io::Result<bool> {
+    if length < MOST {
+        return Ok(false);
     }
     let mut more = [0u8; 1];
-    let got = libc::read(STDIN_FILENO, &mut more);
-    if got <= 0 || length == MOST {
-        return got;
-    }
-    if libc::lseek(STDIN_FILENO, 0, libc::SEEK_CUR) >= 0 {
-        // a file that has grown since its end was read
-        return 0;
-    }
-    // a pipe from which reading had failed, and goes on
-    -1
+    let got = input.read(&mut more)?;
+    Ok(got > 0)
 }
 
 // Says a line on standard error; where that fails there is nobody to tell.
-fn say(line: &[u8]) {
-    io::write_all(STDERR_FILENO, line);
+fn say(rt: &impl Eprint, line: &str) {
+    let _ = rt.eprintln(line);
 }
 
-// Writes the answer to a log on standard output, and says so where that fails.
-fn answer(log: &[u8]) {
+// Writes the answer to a log, and says so where that fails.
+fn answer(rt: &impl Eprint, output: &mut impl Write, log: &[u8]) {
     let mut out = [0u8; ROOM];
     let answered = log_answer::answer_log(log, &mut out);
     let written = answered.length;
-    if !io::write_all(STDOUT_FILENO, &out[..written]) {
-        say(b"lines: the answer could not be written\n");
+    if output.write_all(&out[..written]).is_err() {
+        say(rt, "lines: the answer could not be written");
     }
 }
 
-// Answers standard input, which is cut behind 65,536 bytes. Where it cannot be read to there, or to its end, nothing is
-// answered.
-fn main() {
-    let mut input = io::large_buffer();
-    let length = io::read_full(STDIN_FILENO, &mut input);
-    let behind = read_behind(length);
-    if behind < 0 {
-        say(b"lines: standard input could not be read\n");
-        return;
+// Answers standard input, which is cut behind 65,536 bytes; a failed read ends it ahead of the answer.
+fn answer_input(rt: &HostRuntime) -> io::Result<()> {
+    let mut input = [0u8; MOST];
+    let length = read_full(&mut rt.stdin(), &mut input)?;
+    let more = read_behind(&mut rt.stdin(), length)?;
+    if more {
+        say(rt, "lines: only the first 65536 bytes are answered");
     }
-    if behind > 0 {
-        say(b"lines: only the first 65536 bytes are answered\n");
+    answer(rt, &mut rt.stdout(), &input[..length]);
+    Ok(())
+}
+
+// Answers standard input. Where it cannot be read to its end, or to where it is cut, nothing is answered.
+fn main(rt: HostRuntime) {
+    if answer_input(&rt).is_err() {
+        say(&rt, "lines: standard input could not be read");
     }
-    answer(&input[..length]);
 }

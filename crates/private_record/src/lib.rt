@@ -141,6 +141,7 @@ fn call_good(settings: Settings, state: State, call: PrivateCall) -> bool
 }
 
 // Whether a record is well formed under the settings.
+#[tactic(auto, unfolding(crate::specs::Formed::is_well_formed))]
 pub fn well_formed(settings: Settings, stored: PrivateRecord) -> bool
     ensures { result ≡ is_well_formed settings stored }
 {

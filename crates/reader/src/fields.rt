@@ -8,6 +8,7 @@ use crate::digits::{four_at, one_at, two_at};
 use frame::{Acceptance, GroupCall, Media, Message, Parties, Setup};
 
 // How many digits a line of a kind from 1 to 9 has.
+#[tactic(auto, unfolding(frame::specs::Layout::digits_of))]
 pub(crate) fn digits_of(kind: u8) -> usize
     ensures { result ≡ digits_of kind }
 {
@@ -22,6 +23,7 @@ pub(crate) fn digits_of(kind: u8) -> usize
 }
 
 // The fields of a private call.
+#[tactic(auto, unfolding(frame::specs::Digits::numbers_at))]
 fn parties_at(line: &[u8]) -> Parties
     requires { 22 ≤ length line.now }
     ensures { result ≡ parties_at line.now }
@@ -34,6 +36,7 @@ fn parties_at(line: &[u8]) -> Parties
 }
 
 // A setup's fields: those after the media stand from place at on.
+#[tactic(auto, unfolding(frame::specs::Digits::numbers_at))]
 fn setup_at(line: &[u8], at: usize) -> Setup
     requires { (26 ≤ length line.now) × (at + 8 ≤ length line.now) }
     ensures { result ≡ setup_at line.now at }
@@ -46,6 +49,7 @@ fn setup_at(line: &[u8], at: usize) -> Setup
 }
 
 // A group call's fields: those after the media stand from place at on.
+#[tactic(auto, unfolding(frame::specs::Digits::numbers_at))]
 fn group_call_at(line: &[u8], at: usize) -> GroupCall
     requires { (20 ≤ length line.now) × (at + 34 ≤ length line.now) }
     ensures { result ≡ group_call_at line.now at }
@@ -63,6 +67,7 @@ fn group_call_at(line: &[u8], at: usize) -> GroupCall
 }
 
 // The fields of a group call accept.
+#[tactic(auto, unfolding(frame::specs::Digits::numbers_at))]
 fn acceptance_at(line: &[u8]) -> Acceptance
     requires { 24 ≤ length line.now }
     ensures { result ≡ acceptance_at line.now }
@@ -76,6 +81,7 @@ fn acceptance_at(line: &[u8]) -> Acceptance
 }
 
 // The message of a kind from 1 to 9 whose digits a line holds.
+#[tactic(auto, unfolding(crate::specs::Line::message_at, frame::specs::Layout::digits_of, frame::specs::Digits::numbers_at))]
 pub(crate) fn message_at(line: &[u8], kind: u8) -> Message
     requires le_kind { (1 ≤ kind) × (kind ≤ 9) }
     requires kind_in_bounds { digits_of kind ≤ length line.now }
@@ -95,6 +101,7 @@ pub(crate) fn message_at(line: &[u8], kind: u8) -> Message
 }
 
 // The media whose digits a line of this kind holds, NONE where the kind carries none.
+#[tactic(auto, unfolding(crate::specs::Line::media_at, frame::specs::Layout::digits_of))]
 pub(crate) fn media_at(line: &[u8], kind: u8) -> Media
     requires { digits_of kind ≤ length line.now }
     ensures { result ≡ media_at kind line.now }

@@ -38,6 +38,7 @@ pub(crate) fn four_fits(line: &[u8], at: usize) -> bool
 }
 
 // The fields of a private call.
+#[tactic(auto, unfolding(frame::specs::Frame::parties_good, frame::specs::Digits::numbers_at))]
 fn parties_fit(line: &[u8]) -> bool
     requires in_bounds { 22 < length line.now }
     requires digital { Digital line.now }
@@ -47,6 +48,7 @@ fn parties_fit(line: &[u8]) -> bool
 }
 
 // What a setup request says besides: the fields after the media stand from place at on.
+#[tactic(auto, unfolding(frame::specs::Frame::setup_good, frame::specs::Digits::numbers_at))]
 fn setup_fits(line: &[u8], at: usize) -> bool
     requires { (26 < length line.now) × (at + 8 < length line.now) }
     ensures { result ≡ setup_good (setup_at line.now at) }
@@ -55,6 +57,7 @@ fn setup_fits(line: &[u8], at: usize) -> bool
 }
 
 // The fields of a group call, those after the media from place at on; any time is in range.
+#[tactic(auto, unfolding(frame::specs::Frame::group_call_good, frame::specs::Digits::numbers_at))]
 fn group_call_fits(line: &[u8], at: usize) -> bool
     requires in_bounds { (20 < length line.now) × (at + 34 < length line.now) }
     requires digital { Digital line.now }
@@ -70,6 +73,7 @@ fn group_call_fits(line: &[u8], at: usize) -> bool
 }
 
 // The fields of a group call accept.
+#[tactic(auto, unfolding(frame::specs::Frame::acceptance_good, frame::specs::Digits::numbers_at))]
 fn acceptance_fits(line: &[u8]) -> bool
     requires in_bounds { 24 < length line.now }
     requires digital { Digital line.now }
@@ -80,6 +84,7 @@ fn acceptance_fits(line: &[u8]) -> bool
 }
 
 // Every field of the frame of a kind from 1 to 9 is in its range.
+#[tactic(auto, unfolding(crate::specs::Line::message_at, crate::specs::Line::media_at, frame::specs::Frame::in_range, frame::specs::Layout::digits_of, frame::specs::Digits::numbers_at))]
 pub(crate) fn frame_fits(line: &[u8], kind: u8) -> bool
     requires le_kind { (1 ≤ kind) × (kind ≤ 9) }
     requires kind_in_bounds { digits_of kind < length line.now }

@@ -28,6 +28,7 @@ pub struct Reading {
 }
 
 // The number of a line: 0 where it is readable, else the first of 1 to 5 that is given.
+#[tactic(auto, unfolding(crate::specs::Line::refusal_of))]
 pub fn check_line(line: &[u8]) -> u8
     ensures { result ≡ line_number line.now }
 {
@@ -46,6 +47,7 @@ pub fn check_line(line: &[u8]) -> u8
 }
 
 // The number of a line that is ended and of digits: 0 where it is readable, else the first of 3 to 5 that is given.
+#[tactic(auto, unfolding(crate::specs::Line::refusal_of))]
 fn digital_number(line: &[u8]) -> u8
     requires line_value { unended line.now ≡ false }
     requires digital { Digital line.now }
@@ -69,6 +71,7 @@ fn digital_number(line: &[u8]) -> u8
 }
 
 // The frame of a line, or the number that refuses it.
+#[tactic(auto, unfolding(crate::specs::Line::read_line))]
 pub fn read_line(line: &[u8]) -> Reading
     ensures { result ≡ read_line line.now }
 {

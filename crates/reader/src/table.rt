@@ -3,6 +3,8 @@ ghost use Rattle.std.specs.Prelude.{◌≡◌, ◌+◌, ◌≤◌, length, take}
 ghost use Rattle.frame.specs.Digits.{all_digits};
 ghost use Rattle.reader.specs.Table.{entry_of, Entries, digits_from};
 
+use crate::digits::is_digit;
+
 // What each byte stands for as a digit, and 16 more where it is none; sixteen bytes in a row, so `0` begins the fourth.
 pub(crate) const DIGITS: [u8; 256] = *b"\
     \x10\x11\x12\x13\x14\x15\x16\x17\x18\x19\x1a\x1b\x1c\x1d\x1e\x1f\
@@ -23,6 +25,7 @@ pub(crate) const DIGITS: [u8; 256] = *b"\
     \x19\x1a\x1b\x1c\x1d\x1e\x1f\x10\x11\x12\x13\x14\x15\x16\x17\x18";
 
 // What the table has for a byte.
+#[tactic(auto, unfolding(crate::specs::Table::Entries))]
 fn entry_of(table: &[u8; 256], x: u8) -> u8
     requires { Entries table.now }
     ensures { result ≡ entry_of x }
@@ -49,6 +52,7 @@ fn eight_digits(table: &[u8; 256], line: &[u8], at: usize) -> bool
 
 // Whether each of the first count bytes is a digit, where they are eight or more: eight at a time, and then the last
 // eight, of which some may have been looked at before.
+#[tactic(auto, unfolding(frame::specs::Digits::all_digits))]
 fn many_digits(table: &[u8; 256], line: &[u8], count: usize) -> bool
     requires entries { Entries table.now }
     requires le_count { (8 ≤ count) × (count ≤ length line.now) }
@@ -65,15 +69,15 @@ fn many_digits(table: &[u8; 256], line: &[u8], count: usize) -> bool
     eight_digits(table, line, last)
 }
 
-// The same of any number of bytes: one at a time.
-fn few_digits(table: &[u8; 256], line: &[u8], count: usize) -> bool
-    requires entries { Entries table.now }
-    requires count_in_bounds { count ≤ length line.now }
+// The same of any number of bytes: one at a time, and by comparing.
+#[tactic(auto, unfolding(frame::specs::Digits::all_digits))]
+fn few_digits(line: &[u8], count: usize) -> bool
+    requires { count ≤ length line.now }
     ensures { result ≡ all_digits (take count line.now) }
 {
     let mut i = 0;
     while i < count {
-        if 16 <= entry_of(table, line[i]) {
+        if !is_digit(line[i]) {
             return false;
         }
         i += 1;
@@ -90,5 +94,5 @@ pub(crate) fn digits_by(table: &[u8; 256], line: &[u8], count: usize) -> bool
     if 8 <= count {
         return many_digits(table, line, count);
     }
-    few_digits(table, line, count)
+    few_digits(line, count)
 }

@@ -6,7 +6,6 @@ use call::{
     Verdicts,
 };
 use frame::{Media, Message};
-use libc::{STDERR_FILENO, STDOUT_FILENO};
 use private_record::states::PrivateRecord;
 use reader::Read;
 
@@ -41,24 +40,26 @@ fn input(event: Event, media: Media) -> Input {
 }
 
 // Writes the line at the front of the buffer, and ahead of it a complaint where the step told another length.
-fn show(out: &[u8], told: usize) {
+fn show(rt: &HostRuntime, out: &[u8], told: usize) {
     let length = log_lines::first_line_length(out);
     if length != told {
-        io::write_all(
-            STDOUT_FILENO,
-            b"vectors: a step told another length than that of its line\n",
-        );
+        let _ = rt.println("vectors: a step told another length than that of its line");
     }
-    if !io::write_all(STDOUT_FILENO, &out[..length]) {
-        io::write_all(STDERR_FILENO, b"vectors: a line could not be written\n");
+    if rt.write_all(&out[..length]).is_err() {
+        say(rt, "vectors: a line could not be written");
     }
 }
 
+// Says a line on standard error; where that fails there is nobody to tell.
+fn say(rt: &impl Eprint, line: &str) {
+    let _ = rt.eprintln(line);
+}
+
 // One step of the private call machine: shows the line that it sends, and gives the next record.
-fn private_step(stored: PrivateRecord, taken: Input) -> PrivateRecord {
+fn private_step(rt: &HostRuntime, stored: PrivateRecord, taken: Input) -> PrivateRecord {
     let mut out = [0u8; Message::LONGEST];
     let stepped = private_call::step(crew(), stored, taken, &mut out);
-    show(&out, stepped.length);
+    show(rt, &out, stepped.length);
     stepped.next
 }
 
@@ -100,24 +101,24 @@ fn starts_group_call() -> Input {
 }
 
 // The private call: user 7 starts it, hears the accept of user 9, and ends it.
-fn play_private_call() {
-    let called = private_step(private_record::states::PrivateRecord::cleared(), starts());
+fn play_private_call(rt: &HostRuntime) {
+    let called = private_step(rt, private_record::states::PrivateRecord::cleared(), starts());
     let reading = reader::read_line(&ACCEPT);
     let media = reading.media;
     let read = reading.read;
     match read {
         Read::Readable(message) => {
-            let accepted = private_step(called, input(Event::Message(message), media));
-            private_step(accepted, ends());
+            let accepted = private_step(rt, called, input(Event::Message(message), media));
+            private_step(rt, accepted, ends());
         }
         Read::Refused(_) => {
-            io::write_all(STDERR_FILENO, b"vectors: the accept was not read\n");
+            say(rt, "vectors: the accept was not read");
         }
     }
 }
 
 // The group call: user 7 announces it.
-fn play_group_call() {
+fn play_group_call(rt: &HostRuntime) {
     let mut out = [0u8; Message::LONGEST];
     let announced = group_call::step(
         crew(),
@@ -125,11 +126,11 @@ fn play_group_call() {
         starts_group_call(),
         &mut out,
     );
-    show(&out, announced.length);
+    show(rt, &out, announced.length);
 }
 
 // The private call, then the group call.
-fn main() {
-    play_private_call();
-    play_group_call();
+fn main(rt: HostRuntime) {
+    play_private_call(&rt);
+    play_group_call(&rt);
 }

@@ -23,7 +23,7 @@ pub struct Written {
 pub fn write_line(message: Message, media: Media, out: &mut [u8]) -> Written
     ensures value { result ≡ written_of message media out.old }
     ensures out_after { out.new ≡ buffer_of message media out.old }
-    ensures* do_value { do ⌜ (← (⟦Message::LONGEST⟧).entry) ≡ longest_line ⌝ }
+    ensures longest { Message.LONGEST ≡ longest_line }
 {
     if !in_range(message, media) {
         return Written {

@@ -11,6 +11,7 @@ use crate::put::{put_four, put_one, put_two};
 use frame::{Acceptance, GroupCall, Media, Message, Parties, Setup};
 
 // How many digits the line of a message has.
+#[tactic(auto, unfolding(frame::specs::Layout::digits_of))]
 pub(crate) fn digits_of(message: Message) -> usize
     ensures { result ≡ digits_of (kind_of message) }
 {
@@ -97,6 +98,7 @@ fn put_acceptance(out: &mut [u8], a: Acceptance)
 }
 
 // The digits of a frame, at the front of out.
+#[tactic(auto, unfolding(frame::specs::Layout::digits_of))]
 pub(crate) fn put_frame(out: &mut [u8], message: Message, media: Media)
     requires { digits_of (kind_of message) ≤ length out.old }
     ensures { out.new ≡ sets out.old 0 (frame_in_hex message media) }

@@ -1,0 +1,10 @@
+-- Each byte passed was a digit.
+use Rattle.std.proofs.Common.{◌-◌, ◌≡◌, ◌≤◌, true, take}
+use Rattle.frame.specs.Digits.{all_digits}
+use Rattle.reader.proofs.table.few_digits.Given as goal
+
+abbrev pub invariant-loop-i : goal.invariant-loop-i
+invariant-loop-i l = (l.i ≤ l.count) × (all_digits (take l.i l.line) ≡ true)
+
+abbrev pub decreases-loop-i : goal.decreases-loop-i
+decreases-loop-i l = l.count - l.i

@@ -9,7 +9,7 @@ pub mod timers;
 ghost use Rattle.std.specs.Prelude.{◌≡◌};
 ghost use Rattle.call.specs.Announced.{announced_of};
 ghost use Rattle.call.specs.Request.{private_request, request_of};
-ghost use Rattle.call.specs.Settings.{restricted as restrictedBy};
+ghost use Rattle.call.specs.Settings.{restricted as restricted_by};
 
 use frame::{GroupCall, Media, Message, Parties, Setup};
 
@@ -49,7 +49,7 @@ pub struct Settings {
 impl Settings {
     // Whether the reason of a reject is kept back.
     pub fn restricted(self) -> bool
-        ensures { result ≡ restrictedBy self }
+        ensures { result ≡ restricted_by self }
     {
         self.restrict
     }

@@ -101,8 +101,8 @@ choice_number first second = number_between (line_number first) (line_number sec
 
 -- where a lent line lies, and its bytes: two slices with one place are one slice, and no copy
 abbrev pub place : Bor (List ℕ) → (ℕ × ℕ) × List ℕ
-place r = (r.ptr, r.now)
+place r = (r.ref_ptr, r.now)
 
 -- the first line itself, the second itself, or no bytes where the first begins
 abbrev pub place_of : ℕ → Bor (List ℕ) → Bor (List ℕ) → (ℕ × ℕ) × List ℕ
-place_of choice first second = cond (eqb choice 1) (place first) (cond (eqb choice 2) (place second) (first.ptr, []))
+place_of choice first second = cond (eqb choice 1) (place first) (cond (eqb choice 2) (place second) (first.ref_ptr, []))

@@ -77,6 +77,7 @@ fn calls_choice(first: GroupCall, second: GroupCall) -> u8
 }
 
 // Which of two lines is chosen: 1 the first, 2 the second, 0 neither.
+#[tactic(auto, unfolding(crate::specs::Choice::choice_of))]
 pub fn choice(first: &[u8], second: &[u8]) -> u8
     ensures { result ≡ choice_of first.now second.now }
 {
@@ -93,6 +94,7 @@ pub fn choice(first: &[u8], second: &[u8]) -> u8
 
 // The number of the question which of two lines is chosen: that of the first line, else that of the second, else 10
 // where they do not announce two calls of one group with two identifiers, else 0.
+#[tactic(auto, unfolding(crate::specs::Choice::choice_number))]
 pub fn choose_number(first: &[u8], second: &[u8]) -> u8
     ensures { result ≡ choice_number first.now second.now }
 {

@@ -111,6 +111,7 @@ pub struct Carried {
 }
 
 // Carries out a row.
+#[tactic(auto, unfolding(crate::specs::Carried::carry_out))]
 pub(crate) fn carry_out(settings: Settings, stored: GroupRecord, input: Input, row: Row) -> Carried
     ensures { result ≡ carry_out settings stored input row }
 {

@@ -1,7 +1,7 @@
 // What each row of the group call machine does.
 ghost use Rattle.std.specs.Prelude.{◌≡◌};
-ghost use Rattle.group_call.specs.Effects.{enters as entersOf, stays as stays_of, starts as startsOf};
-ghost use Rattle.group_call.specs.Effects.{restarts as restartsOf, waits, confirms, effect_of};
+ghost use Rattle.group_call.specs.Effects.{enters as enters_of, stays as stays_of, starts as starts_of};
+ghost use Rattle.group_call.specs.Effects.{restarts as restarts_of, waits, confirms, effect_of};
 
 use group_record::states::{State, Timers};
 use group_rows::Row;
@@ -48,7 +48,7 @@ pub struct Effect {
 impl Effect {
     // A row that enters a state.
     fn enters(to: State, start: Timers, hold: Hold, say: Say) -> Effect
-        ensures { result ≡ entersOf to start hold say }
+        ensures { result ≡ enters_of to start hold say }
     {
         Effect {
             to: to,
@@ -74,7 +74,7 @@ impl Effect {
 
     // A row that starts a timer while state and call stay.
     fn starts(state: State, start: Timers, say: Say) -> Effect
-        ensures { result ≡ startsOf state start say }
+        ensures { result ≡ starts_of state start say }
     {
         Effect {
             to: state,
@@ -87,7 +87,7 @@ impl Effect {
 
     // A row that stops timers and starts them again while the state stays.
     fn restarts(state: State, timers: Timers, hold: Hold) -> Effect
-        ensures { result ≡ restartsOf state timers hold }
+        ensures { result ≡ restarts_of state timers hold }
     {
         Effect {
             to: state,

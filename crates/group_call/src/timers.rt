@@ -1,6 +1,6 @@
 // What becomes of the timers, by the rules for all rows.
 ghost use Rattle.std.specs.Prelude.{◌≡◌};
-ghost use Rattle.group_record.specs.States.{state_number, has as hasTimer};
+ghost use Rattle.group_record.specs.States.{state_number, has as has_timer};
 ghost use Rattle.group_call.specs.Carried.{ran_out_by, timer_out, group_timer_out, changes};
 ghost use Rattle.group_call.specs.Carried.{timer_facts, stopped_of, running_after};
 
@@ -61,7 +61,7 @@ pub(crate) fn state_changes(state: State, to: State) -> bool
 
 // Whether a timer is in a set.
 fn has(timers: Timers, timer: GroupTimer) -> bool
-    ensures { result ≡ hasTimer timers timer }
+    ensures { result ≡ has_timer timers timer }
 {
     match timer {
         GroupTimer::Tfg2 => timers.tfg2,
@@ -99,6 +99,7 @@ impl TimerSets {
     }
 
     // What stops.
+    #[tactic(auto, unfolding(crate::specs::Carried::stopped_of))]
     pub(crate) fn stopped(self) -> Timers
         ensures { result ≡ stopped_of self }
     {
@@ -110,6 +111,7 @@ impl TimerSets {
     }
 
     // What runs afterwards.
+    #[tactic(auto, unfolding(crate::specs::Carried::running_after))]
     pub(crate) fn running_after(self) -> Timers
         ensures { result ≡ running_after self }
     {

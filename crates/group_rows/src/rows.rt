@@ -1,6 +1,6 @@
 // Which row is met.
 ghost use Rattle.std.specs.Prelude.{◌≡◌};
-ghost use Rattle.group_rows.specs.Found.{at_of, met as metOf, announced_row, found_at};
+ghost use Rattle.group_rows.specs.Found.{at_of, met as met_of, announced_row, found_at};
 ghost use Rattle.group_rows.specs.Rows.{row_in};
 
 use crate::Row;
@@ -52,7 +52,7 @@ impl At {
 
 // A row that is met where all that it asks holds.
 fn met(asked: bool, row: Row) -> Row
-    ensures { result ≡ metOf asked row }
+    ensures { result ≡ met_of asked row }
 {
     if asked { row } else { Row::Discard }
 }

@@ -1,8 +1,8 @@
 // What each row of the private call machine does.
 ghost use Rattle.std.specs.Prelude.{◌≡◌};
 ghost use Rattle.private_call.specs.Carried.{reason_number};
-ghost use Rattle.private_call.specs.Effects.{enters as entersOf, takes as takesOf, ends as endsOf};
-ghost use Rattle.private_call.specs.Effects.{stays as stays_of, repeats as repeatsOf, turns as turnsOf};
+ghost use Rattle.private_call.specs.Effects.{enters as enters_of, takes as takes_of, ends as ends_of};
+ghost use Rattle.private_call.specs.Effects.{stays as stays_of, repeats as repeats_of, turns as turns_of};
 ghost use Rattle.private_call.specs.Effects.{effect_of};
 
 use private_record::states::{State, Timers};
@@ -80,7 +80,7 @@ pub struct Effect {
 impl Effect {
     // A row that enters a state.
     fn enters(to: State, start: Timers, hold: Hold, say: Say) -> Effect
-        ensures { result ≡ entersOf to start hold say }
+        ensures { result ≡ enters_of to start hold say }
     {
         Effect {
             to: to,
@@ -94,14 +94,14 @@ impl Effect {
 
     // A row that stores the setup request and enters a state.
     fn takes(to: State, start: Timers, say: Say) -> Effect
-        ensures { result ≡ takesOf to start say }
+        ensures { result ≡ takes_of to start say }
     {
         Effect::enters(to, start, Hold::Request, say)
     }
 
     // A row that ends what was, and enters P1.
     fn ends(say: Say) -> Effect
-        ensures { result ≡ endsOf say }
+        ensures { result ≡ ends_of say }
     {
         Effect::enters(State::P1, Timers::NONE, Hold::Keep, say)
     }
@@ -122,7 +122,7 @@ impl Effect {
 
     // A row that says again what got no reply.
     fn repeats(state: State, start: Timers, say: Say) -> Effect
-        ensures { result ≡ repeatsOf state start say }
+        ensures { result ≡ repeats_of state start say }
     {
         Effect {
             to: state,
@@ -136,7 +136,7 @@ impl Effect {
 
     // A row that puts one timer in another's place.
     fn turns(state: State, stop: Timers, start: Timers, say: Say) -> Effect
-        ensures { result ≡ turnsOf state stop start say }
+        ensures { result ≡ turns_of state stop start say }
     {
         Effect {
             to: state,

@@ -1,6 +1,6 @@
 // What becomes of the timers, by the rules for all rows.
 ghost use Rattle.std.specs.Prelude.{◌≡◌};
-ghost use Rattle.private_record.specs.Phases.{state_number, has as hasTimer};
+ghost use Rattle.private_record.specs.Phases.{state_number, has as has_timer};
 ghost use Rattle.private_call.specs.Carried.{ran_out_by, timer_out, private_timer_out, changes, started_of};
 ghost use Rattle.private_call.specs.Carried.{timer_facts, stopped_of, running_after};
 
@@ -81,7 +81,7 @@ pub(crate) fn started(state: State, to: State, start: Timers) -> Timers
 
 // Whether a timer is in a set.
 fn has(timers: Timers, timer: PrivateTimer) -> bool
-    ensures { result ≡ hasTimer timers timer }
+    ensures { result ≡ has_timer timers timer }
 {
     match timer {
         PrivateTimer::Tfp1 => timers.tfp1,

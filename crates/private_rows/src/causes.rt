@@ -2,7 +2,7 @@
 ghost use Rattle.std.specs.Prelude.{◌≡◌};
 ghost use Rattle.private_rows.specs.Causes.{private_action_cause, action_cause, private_timer_cause, timer_cause};
 ghost use Rattle.private_rows.specs.Causes.{setup_cause, message_cause, cause_of, same_identifier, same_call};
-ghost use Rattle.private_rows.specs.Causes.{message_same, same_of, pck_asked, trusted as trustedBy, facts_of};
+ghost use Rattle.private_rows.specs.Causes.{message_same, same_of, pck_asked, trusted as trusted_by, facts_of};
 
 use crate::phases::count_of;
 use call::{
@@ -196,7 +196,7 @@ fn pck_asked(event: Event, request: Request, stored: u32) -> u32
 
 // There is no security, or the signature is good.
 fn trusted(pck_id: u32, verdicts: Verdicts) -> bool
-    ensures { result ≡ trustedBy pck_id verdicts }
+    ensures { result ≡ trusted_by pck_id verdicts }
 {
     (pck_id == 0) | verdicts.signature
 }

@@ -1,6 +1,6 @@
 // Which row is met.
 ghost use Rattle.std.specs.Prelude.{◌≡◌};
-ghost use Rattle.private_rows.specs.Found.{order_of, at_of, met as metOf, either as either_of, setup_row};
+ghost use Rattle.private_rows.specs.Found.{order_of, at_of, met as met_of, either as either_of, setup_row};
 ghost use Rattle.private_rows.specs.Found.{accept_row, found_at};
 ghost use Rattle.private_rows.specs.Rows.{row_in};
 
@@ -62,7 +62,7 @@ impl At {
 
 // A row that is met where all that it asks holds.
 fn met(asked: bool, row: Row) -> Row
-    ensures { result ≡ metOf asked row }
+    ensures { result ≡ met_of asked row }
 {
     if asked { row } else { Row::Discard }
 }

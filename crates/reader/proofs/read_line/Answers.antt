@@ -1,7 +1,6 @@
 -- Past the test the line is accepted, and all that an accepted line is, it is.
-use Rattle.std.proofs.Common.{◌≡◌, ◌≤◌, length, sym, ◌∙◌, arith}
-use Rattle.frame.specs.Layout.{digits_of}
-use Rattle.reader.proofs.Accepted.{Accepted, accepted}
+use Rattle.std.proofs.Common.{sym, ◌∙◌, arith}
+use Rattle.reader.proofs.Accepted.{accepted}
 use Rattle.reader.proofs.read_line.Goals as goal
 
 pub one_at-kind-requires : goal.one_at-kind-requires

@@ -6,6 +6,7 @@ ghost use Rattle.log_answer.specs.Answer.{answer_to, answer_of};
 use log_lines::first_line_length;
 
 // How long the answer to a line is.
+#[tactic(auto, unfolding(crate::specs::Answer::answer_to))]
 fn answer_length(line: &[u8]) -> usize
     ensures { result ≡ length (answer_to line.now) }
 {
@@ -23,7 +24,8 @@ fn answer_line(line: &[u8], out: &mut [u8]) -> usize
 {
     let number = reader::check_line(line);
     if number == 0 {
-        return bytes::copy(line, out);
+        out[..line.len()].copy_from_slice(line);
+        return line.len();
     }
     out[0] = b'!';
     out[1] = b'0' + number;

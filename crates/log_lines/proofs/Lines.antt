@@ -9,7 +9,7 @@ use native.Mathlib.Nat.{add-zero, add-suc, zero-add}
 use native.Mathlib.Omega.{arith}
 use lib.ListN.{length, take, drop, get_or, length-append, drop_of_length-le}
 use lib.Seq.{length-take-le, take-append_seam, drop-append_seam, drop-cons}
-use borrow.Author.Tests.{not-true, eq-eqb}
+use borrow.Author.Tests.{not-true}
 use Rattle.frame.proofs.Laws.{and_split, or_cases, or-none, or_split}
 use Rattle.log_lines.specs.Lines.{is_end, ahead, lines_of, joined, first_line, after_first, end_within, WithoutEnd, ended_line, unended_piece, cut_at_ends, CutPlace}
 
@@ -122,14 +122,6 @@ first-skips (suc n) log h =
     let before = first-skips n log (omega (arith, h.0), p.0) in
     let last = first_more log n (omega (arith, h.0)) (rw zero-add at p.1) in
     omega (arith, before, last)
-
--- behind n bytes in which no line ends, a byte that ends one is the last of the first line
-pub first_ends : (log : List ℕ) (n : ℕ) → WithoutEnd n log → n < length log → get_or log n 0 ≡ 10 → n + 1 ≡ length (first_line log)
-first_ends log n h r e = omega (arith, first-skips n log h, first-stop log n r (eq-eqb _ _ e))
-
--- and where no byte is left they are all of it
-pub first_all : (log : List ℕ) (n : ℕ) → WithoutEnd n log → length log ≤ n → n ≡ length (first_line log)
-first_all log n h r = omega (arith, first-skips n log h, first-none log n r)
 
 -- ---- none but the last can lack its end, and no other lines make up the log
 

@@ -42,6 +42,7 @@ fn limits_good(limits: Counters) -> bool
 }
 
 // Every setting is in its range.
+#[tactic(auto, unfolding(call::specs::Settings::settings_good))]
 fn settings_good(settings: Settings) -> bool
     ensures { result ≡ settings_good settings }
 {
@@ -144,6 +145,7 @@ fn arguments_good(settings: Settings, event: Event, media: Media) -> bool
 
 // The number that a step gives before it looks for a row: 7 for a setting, 9 for a record that is not well formed,
 // 5 for a field of a message, 8 for an argument of an action; 0 where there is nothing to refuse.
+#[tactic(auto, unfolding(crate::specs::Numbers::number_before_row))]
 pub fn number_before_row(settings: Settings, well_formed: bool, input: Input) -> u8
     ensures { result ≡ number_before_row settings well_formed input }
 {
@@ -167,6 +169,7 @@ pub fn number_before_row(settings: Settings, well_formed: bool, input: Input) ->
 // ---- the line that is sent
 
 // What a step sends, at the front of a lent buffer: nothing, or the line of a message, with the writer's number.
+#[tactic(auto, unfolding(writer::specs::Writing::written_of, writer::specs::Writing::buffer_of))]
 pub fn write_sent(sent: Send, media: Media, out: &mut [u8]) -> Written
     ensures value { result ≡ send_told sent media out.old }
     ensures out_after { out.new ≡ send_buffer sent media out.old }

@@ -1,5 +1,5 @@
-// Entries for C that play the steps which the bytes of a script name, one after the other, so that a host can measure
-// a step of either machine.
+// Entries that play the steps which the bytes of a script name, one after the other, so that a host can measure a step
+// of either machine. The crate pace_c exports them to C.
 #![tactic(auto)]
 
 mod happenings;

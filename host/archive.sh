@@ -27,14 +27,15 @@ said=$root/target/native/$target/said
 aside=''
 trap 'rm -f "$archive.new"; [ -z "$aside" ] || rm -rf "$aside"' EXIT
 
-# Leaves in the folder aside what the kit takes for its tools: its own, but with a compiler that makes code for the target.
+# Leaves in the folder aside what the kit takes for its tools: its own, but with a compiler that makes code for the target. It has links, so it
+# lies outside the tree.
 other_tools() {
-    local entry
+    local entry clang=${said%/*}/clang
     aside=$(mktemp -d) && mkdir "$aside/bin" && ln -s "$kit/toolchain/lib" "$aside/lib" || return
     for entry in "$kit"/toolchain/bin/*; do
         [ "${entry##*/}" = clang ] || ln -s "$entry" "$aside/bin/" || return
     done
-    compiler "$kit/toolchain/bin/clang" >"$aside/bin/clang" && chmod +x "$aside/bin/clang"
+    compiler "$kit/toolchain/bin/clang" >"$clang" && chmod +x "$clang" && ln -s "$clang" "$aside/bin/"
 }
 
 # Prints the compiler that stands in for that of the first word.

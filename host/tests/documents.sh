@@ -5,7 +5,10 @@ cd "$(dirname "${BASH_SOURCE[0]}")/../.." || exit 2
 . host/verdict.sh
 
 # The crates of crates.txt.
-listed() { sed 's/#.*//' crates.txt | sed -n 's/^[[:space:]]*\([a-z0-9_]*\):.*/\1/p'; }
+listed() { sed 's/#.*//' crates.txt | sed -nE 's/^[[:space:]]*([a-z0-9_]+)( staticlib)?:.*/\1/p'; }
+
+# Those of them that are archives for C.
+archives() { sed -n 's/^\([a-z0-9_]*\) staticlib:.*/\1/p' crates.txt; }
 
 # The public functions of a library, CRATE::NAME, with the module ahead of the name and, where it is a method, the type: a method stands in
 # the module of its type, whichever file has it.
@@ -47,7 +50,7 @@ done
 verdict "every folder of crates/ is listed in crates.txt" "$wrong"
 
 # Prints LAYER NAME for each crate, as crates.txt has them and as the map of README.md does: the name of a layer stands ahead of its crates.
-layers() { awk '/^# [A-Za-z]+$/ { layer = $2 } /^[a-z]/ { sub(/:.*/, ""); print layer, $1 }' crates.txt; }
+layers() { awk '/^# [A-Za-z]+$/ { layer = $2 } /^[a-z]/ { sub(/( staticlib)?:.*/, ""); print layer, $1 }' crates.txt; }
 mapped() { sed -nE 's/^\| ([A-Za-z]*) ?\| \[([a-z_]+)\]\(crates\/\2\) \| [^|]+ \|$/\1 \2/p' README.md | awk 'NF == 2 { layer = $1 } { print layer, $NF }'; }
 wrong=$(diff <(layers) <(mapped) | grep '^[<>]' | paste -s -d ';')
 names=$(layers | cut -d ' ' -f 1 | uniq | paste -s -d ' ')
@@ -56,7 +59,7 @@ verdict "the map of README.md has the crates and the six layers of crates.txt, i
 
 # Prints NAME:DEPENDENCY for each crate that stands on one that is listed behind it.
 upwards() {
-    awk 'NR == FNR { crate[$0]; next } { sub(/#.*/, ""); sub(/:/, "") } { for (i = 2; i <= NF; i++) if ($i in crate && !($i in seen)) print $1 ":" $i; seen[$1] }' \
+    awk 'NR == FNR { crate[$0]; next } { sub(/#.*/, ""); sub(/( staticlib)?:/, "") } { for (i = 2; i <= NF; i++) if ($i in crate && !($i in seen)) print $1 ":" $i; seen[$1] }' \
         <(listed) crates.txt | paste -s -d ' '
 }
 verdict "every crate of crates.txt stands on crates ahead of it alone" "$(upwards)"
@@ -76,13 +79,30 @@ verdict "docs/PROMISES.md has every public function" "$wrong"
 
 wrong=''
 for name in $(public_functions); do
+    ! archives | grep -qx "${name%%::*}" || continue
     path=$(echo "$name" | sed 's/::/.proofs./; s/::/./g')
     # shellcheck disable=SC2086
-    file=$(grep -l "^use Rattle·$path\.Reads as " $one_answer)
-    theorem=$(sed -n "s/^use Rattle·$path\.Reads as \(.*\)/\1-one/p" "${file:-/dev/null}")
-    grep -q "^pub ${theorem:-none} : " "${file:-/dev/null}" && grep -qF "One answer: \`$theorem\`" docs/PROMISES.md || wrong="$wrong $name"
+    file=$(grep -l "^use Rattle\.$path\.Reads as " $one_answer)
+    called=$(sed -n "s/^use Rattle\.$path\.Reads as //p" "${file:-/dev/null}")
+    theorem=$(sed -n "s/^pub \([a-z_-]*\) : .* OneAnswer (${called:-none}\.Asked κs) (${called:-none}\.Learnt κs) .*/\1/p" "${file:-/dev/null}")
+    [ -n "$theorem" ] && grep -qF "One answer: \`$theorem\`" docs/PROMISES.md || wrong="$wrong $name"
 done
 verdict "every public function has its theorem of one answer" "$wrong"
+
+# Prints the functions of a file that are exported to C, or are public where the second word says so, each with its clauses, and nothing else.
+functions() { awk -v begin="$2" 'index($0, begin) == 1 { on = 1 } /^{/ { on = 0 } on { sub(/ extern "C"/, ""); print }' "$1"; }
+
+wrong=''
+for archive in $(archives); do
+    library=${archive%_c}
+    exported=$(functions "crates/$archive/src/lib.rt" 'pub extern "C" fn ')
+    [ -n "$exported" ] && [ "$exported" = "$(functions "crates/$library/src/lib.rt" 'pub fn ')" ] || wrong="$wrong $archive"
+    # Each body calls the function of the library with the same parameters.
+    bodies=$(sed -n '/^{/{n;p}' "crates/$archive/src/lib.rt")
+    calls=$(sed -n 's/^pub fn \(.*\)) -> .*/\1)/p' <<<"$exported" | sed -E "s/: [^,)]*//g; s/^/    $library::/")
+    [ "$bodies" = "$calls" ] || wrong="$wrong $archive:bodies"
+done
+verdict "every entry for C has the clauses of the function of its library, and calls it" "$wrong"
 
 # Prints NAME|MARK|INPUT for each row of a table of docs/PROMISES.md that names an edit: the mark stands behind the name.
 rows() { awk -F ' *[|] *' '/^[|].*`[a-z_]+\/[a-z0-9_]+`/ { split($3, edit, /`,? */); print edit[2] "|" edit[3] "|" $4 }' docs/PROMISES.md; }
@@ -214,7 +234,14 @@ verdict "every clause that docs/SLIPS.md shows stands in a file linked, and ever
 wrong=$(find crates host -type f | grep -E '\.(rt|antt|c|h|rs|sh)$' | xargs wc -l | awk '$2 != "total" && $1 >= 300 { print $2 }')
 verdict "no source file has 300 lines" "$wrong"
 
-wrong=$(rt fmt --check >/dev/null 2>&1 || echo "run rt fmt")
+# rt fmt writes: so it lays out a copy.
+copy=$(mktemp -d) || exit 2
+trap 'rm -rf "$copy"' EXIT
+cp -R --parents crates.txt crates/*/{src,specs,proofs} "$copy/" 2>/dev/null
+for crate in "$copy"/crates/*/; do
+    (cd "$crate" && rt fmt) >/dev/null 2>&1 </dev/null || echo "rt fmt failed in ${crate#"$copy/"}" >>"$copy/wrong"
+done
+wrong=$(cat "$copy/wrong" 2>/dev/null; cd "$copy" && find crates -type f -exec cmp -s {} "$OLDPWD/{}" \; -o -type f -print | head -n 3)
 verdict "the sources are in rt fmt's layout" "$wrong"
 
 exit $status

@@ -1,7 +1,7 @@
 #!/usr/bin/env bash
-# host/alone.sh COMMAND [WORDS...]: runs a command at the root while no other runs there that was started this way: two calls of rt must
-# not build in one tree at a time, and two students may well type bin/drill at once. What such a command starts may not ask for this again.
-# The lock is the file .alone at the root, since rt ci takes target away.
+# host/alone.sh COMMAND [WORDS...]: runs a command at the root while no other runs there that was started this way: what rt has built is not
+# to be built anew while it is taken, and two students may well type bin/drill at once. What such a command starts may not ask for this
+# again. The lock is the file .alone at the root.
 set -u
 root=$(cd "$(dirname "${BASH_SOURCE[0]}")/.." && pwd -P) || exit 2
 . "$root/host/command.sh"

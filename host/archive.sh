@@ -1,8 +1,9 @@
 #!/usr/bin/env bash
-# host/archive.sh NAME FOLDER [TARGET]: proves the library NAME of crates/ and leaves its archive for C as FOLDER/libNAME.a, made for the
+# host/archive.sh NAME FOLDER [TARGET]: proves the library NAME_c of crates/ and leaves its archive for C as FOLDER/libNAME.a, made for the
 # machine TARGET of host/targets.sh, or for the one at hand; quiet, and quick where nothing has changed since. rt makes archives for x86-64.
-# For another machine the kit's own compiler is asked to make the same module, on its way from rt. An archive that is not rt's own for this
-# machine goes to FOLDER alone, and target/staticlib is left as it is. Where rt refuses, FOLDER has no archive of that name afterwards.
+# For another machine the kit makes the same library, 64-bit Arm of itself and any other by its own compiler, which is asked on its way. Where
+# the gate has just proved all, its libraries are taken, and rt is not asked. Where rt or the kit refuses, FOLDER has no archive of that name
+# afterwards.
 set -u
 root=$(cd "$(dirname "${BASH_SOURCE[0]}")/.." && pwd -P) || exit 2
 . "$root/host/command.sh"
@@ -12,46 +13,29 @@ root=$(cd "$(dirname "${BASH_SOURCE[0]}")/.." && pwd -P) || exit 2
 about "$@"
 [ $# -ge 2 ] && [ $# -le 3 ] && [ -n "$1" ] && [ -n "$2" ] || fail "usage: host/archive.sh NAME FOLDER [TARGET]"
 name=$1
+crate=${1}_c
 target=${3-}
 [ $# -eq 3 ] || target=$(own_target) || fail "no archive can be made for this machine, $(uname -m), but for one of ${targets[*]}"
 is_target "$target" || fail "no target $target: it is one of ${targets[*]}"
-[ -f "$root/crates/$name/src/lib.rt" ] || fail "no library $name in crates/"
+[ -f "$root/crates/$crate/src/lib.rt" ] || fail "no library $crate in crates/"
 needs_kit
 mkdir -p "$2" 2>/dev/null || fail "$2 cannot be written"
 folder=$(cd "$2" && pwd -P) || exit 2
 cd "$root" || exit 2
 archive=$folder/lib$name.a
-trap 'rm -f "$archive.new"' EXIT
-aside=$root/target/native/$target
+said=$root/target/native/$target/said
+aside=''
+trap 'rm -f "$archive.new"; [ -z "$aside" ] || rm -rf "$aside"' EXIT
 
-# Links all that the first folder has into the second, but for the names behind.
-link_all() {
-    local from=$1 into=$2 entry
-    shift 2
-    mkdir -p "$into" || return
-    for entry in "$from"/*; do
-        case " $* " in
-        *" ${entry##*/} "*) ;;
-        *) ln -sfn "$entry" "$into/${entry##*/}" || return ;;
-        esac
+# Leaves in the folder aside what the kit takes for its tools: its own, but with a compiler that makes code for the target. It has links, so it
+# lies outside the tree.
+other_tools() {
+    local entry clang=${said%/*}/clang
+    aside=$(mktemp -d) && mkdir "$aside/bin" && ln -s "$kit/toolchain/lib" "$aside/lib" || return
+    for entry in "$kit"/toolchain/bin/*; do
+        [ "${entry##*/}" = clang ] || ln -s "$entry" "$aside/bin/" || return
     done
-}
-
-# Leaves in the folder aside what rt takes for the root: the crates, and all that it keeps of proofs, but with a place of its own for
-# archives.
-other_root() {
-    rm -rf "$aside" && mkdir -p "$aside/target" target/{log,rlib,stamp} && ln -s "$root/crates" "$root/crates.txt" "$aside/" &&
-        ln -s "$root"/target/{log,rlib,stamp} "$aside/target/"
-}
-
-# Leaves in the folder aside what rt takes for the kit: the kit itself, but with a compiler that makes code for the target.
-other_kit() {
-    local other=$aside/kit on tools
-    on=on/$(uname -m)
-    tools=$on/toolchain
-    link_all "$kit" "$other" on && link_all "$kit/$on" "$other/$on" toolchain && link_all "$kit/$tools" "$other/$tools" bin &&
-        link_all "$kit/$tools/bin" "$other/$tools/bin" clang && compiler "$kit/$tools/bin/clang" >"$other/$tools/bin/clang" &&
-        chmod +x "$other/$tools/bin/clang"
+    compiler "$kit/toolchain/bin/clang" >"$clang" && chmod +x "$clang" && ln -s "$clang" "$aside/bin/"
 }
 
 # Prints the compiler that stands in for that of the first word.
@@ -68,7 +52,7 @@ for word in "\$@"; do
     --target=* | -march=*) ;;
     *.bc)
         "\$clang" "\${own[@]}" --no-default-config -Xclang -disable-llvm-passes -S -emit-llvm -x ir "\$word" -o "\$word.ll" || exit
-        sed -i 's/ "target-cpu"="x86-64"//; s/ "probe-stack"="inline-asm"//' "\$word.ll" || exit
+        sed -i 's/ "target-cpu"="x86-64[-v0-9]*"//; s/ "probe-stack"="inline-asm"//; s/ "stack-probe-size"="[0-9]*"//' "\$word.ll" || exit
         words+=("\$word.ll")
         ;;
     *) words+=("\$word") ;;
@@ -78,11 +62,57 @@ exec "\$clang" "\${words[@]}" "\${own[@]}"
 END
 }
 
-# Has rt prove and make the archive in the root of the first word, with what it says in the file of the second, and by a kit of its own
-# where a third word names one; leaves the archive beside where it belongs.
-make() {
-    (cd "$1" && exec env ${3:+"RATTLE_HOME=$3"} "$rt" staticlib "$name") </dev/null >"$2" 2>&1 && [ -f "$1/target/staticlib/lib$name.a" ] || return
-    cp "$1/target/staticlib/lib$name.a" "$archive.new" 2>/dev/null || fail "$folder cannot be written"
+# Prints the libraries of crates.txt that the one of the first word stands on: those that it names, or with a second word all below it.
+stands_on() {
+    awk -v name="$1" -v all="${2-}" '
+        { sub(/#.*/, "") }
+        /:/ { split($1, own, ":"); sub(/[^:]*:/, ""); on[own[1]] = $0 }
+        END { on_these(name) }
+        function on_these(above, each, n, i) {
+            n = split(on[above], each, " ")
+            for (i = 1; i <= n; i++) if (each[i] in on && !seen[each[i]]++) { print each[i]; if (all) on_these(each[i]) }
+        }' crates.txt
+}
+
+# Whether the libraries below are those that the gate has proved at this state; rt notes at its own what they were made from.
+are_taken() {
+    local library
+    [ -n "$(state)" ] && [ "$(cat target/libraries.state 2>/dev/null)" = "$(state)" ] || return
+    for library in $(stands_on "$crate" all); do
+        [ -d "crates/$library/out/rlib/$library.rlib" ] && [ ! -e "crates/$library/out/rlib/stamp" ] || return
+    done
+}
+
+# Has rt prove the library of the first word and all below it, and build it: of one for C it makes the archive for x86-64.
+prove() { (cd "crates/$1" && exec "$rt" lib) </dev/null >"$said" 2>&1; }
+
+# Has rt make the archive for x86-64 beside where it belongs.
+make() { prove "$crate" && cp "crates/$crate/out/lib$crate.a" "$archive.new"; }
+
+# Has rt prove all below the library.
+prove_below() {
+    local library
+    for library in $(stands_on "$crate"); do prove "$library" || return; done
+}
+
+# Has the kit prove the library, over those below it as they are built, and make the archive beside where it belongs, with the words behind;
+# the first word is the folder of the tools.
+build() {
+    local words=(--crate-name "$crate" src/lib.rt --extern "std=$kit/rlibs/std.rlib" -L "dependency=$kit/rlibs") library
+    for library in $(stands_on "$crate"); do words+=(--extern "$library=$root/crates/$library/out/rlib/$library.rlib"); done
+    for library in $(stands_on "$crate" all); do words+=(-L "dependency=$root/crates/$library/out/rlib"); done
+    words+=(--antt-project "$kit/rattle/logic/antt-project.json" --logic-built "$kit/logic_built" --jobs 1 --links "$crate=")
+    (cd "crates/$crate" && exec "$kit/bin/rattle" build "${words[@]}" --crate-type staticlib --toolchain "$1" --backend llvm "${@:2}" \
+        -o "$archive.new") </dev/null
+}
+
+# The same for the target.
+build_for_target() {
+    case $target in
+    x86_64-linux-gnu) build "$kit/toolchain" ;;
+    aarch64-linux-gnu) build "$kit/toolchain" --target aarch64-unknown-linux-gnu ;;
+    *) other_tools && build "$aside" ;;
+    esac
 }
 
 now=$(state host/archive.sh host/targets.sh) && now="$now $target"
@@ -91,18 +121,16 @@ if is_state "$archive" "$folder/lib$name.state" "$now"; then
 fi
 [ -w "$folder" ] || fail "$folder cannot be written"
 needs_target
-# What follows is for one at a time, since rt builds in target/.
+# What follows is for one at a time.
 if [ "${ALONE_IN-}" != "$root" ]; then
     exec bash host/alone.sh bash host/archive.sh "$name" "$folder" "$target"
 fi
 ! flock -n .alone true 2>/dev/null || fail "ALONE_IN is set, and nothing runs alone here: unset it"
 rm -f "$folder/lib$name.state" "$archive" || fail "$folder cannot be written"
-if [ "$target-$(uname -m)" = x86_64-linux-gnu-x86_64 ]; then
-    make "$root" /dev/null || fail "no archive of $name: bash host/alone.sh rt staticlib $name says why"
+{ mkdir -p "${said%/*}" && : >"$said"; } 2>/dev/null || fail "$root/target cannot be written"
+if [ "$target" != x86_64-linux-gnu ] || are_taken; then
+    { are_taken || prove_below; } && build_for_target >"$said" 2>&1
 else
-    by=''
-    other_root 2>/dev/null || fail "$root/target cannot be written"
-    [ "$target" = x86_64-linux-gnu ] || { by=$aside/kit && other_kit 2>/dev/null; } || fail "$root/target cannot be written"
-    make "$aside" "$aside/said" "$by" || fail "no archive of $name for $target: $aside/said says why"
-fi
+    make
+fi && [ -f "$archive.new" ] || fail "no archive of $name for $target: $said says why"
 mv "$archive.new" "$archive" && note_state "$archive" "$folder/lib$name.state" "$now" || fail "$folder cannot be written"

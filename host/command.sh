@@ -37,8 +37,8 @@ about() {
 # Leaves in $rt the command of the Rattle kit, and in $kit the folder of the kit; gives up where there is none.
 needs_kit() {
     rt=$(command -v rt) || fail "rt, the command of the Rattle kit, is not on the PATH"
-    kit=${RATTLE_HOME:-$(dirname "$(dirname "$(readlink -f "$rt")")")}
+    kit=$(dirname "$(dirname "$(readlink -f "$rt")")")
 }
 
-# Gives up where the folder that all is built in, of the tree at the root, cannot be written.
+# Gives up where the folder that the scripts build in, of the tree at the root, cannot be written.
 needs_target() { { mkdir -p "$root/target" && [ -w "$root/target" ]; } 2>/dev/null || fail "$root/target cannot be written"; }

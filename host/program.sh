@@ -1,9 +1,8 @@
 #!/usr/bin/env bash
-# host/program.sh [--command] NAME: runs the program NAME of crates/ on this standard input and output, under the loader and C library of
-# the Rattle kit, and under its emulator where the machine is not x86-64. Before that it proves and builds NAME quietly, where anything has
-# changed. With --command it does not run it, but says the words of the command that would, a line each.
-# Ends as the program does; a program of Rattle has no status of its own, so with 1 where it says that its answer could not be written, and
-# with 2 where it says that its input could not be read.
+# host/program.sh [--command] NAME: runs the program NAME of crates/ on this standard input and output. Before that it proves and builds NAME
+# quietly, where anything has changed. With --command it does not run it, but says the words of the command that would, a line each.
+# Ends as the program does, but with 1 where it says that its answer could not be written, and with 2 where it says that its input could not
+# be read.
 set -u
 root=$(cd "$(dirname "${BASH_SOURCE[0]}")/.." && pwd -P) || exit 2
 . "$root/host/command.sh"
@@ -61,27 +60,27 @@ tell() { printf '%s\n' "$@"; }
 
 [ -f "$root/crates/$name/src/main.rt" ] || fail "no program of this name in crates/"
 needs_kit
-tools=$kit/on/$(uname -m)/toolchain
-loader=$tools/lib/ld-linux-x86-64.so.2
-emulator=$tools/bin/qemu-x86_64
 program=$root/target/bin/$name
-[ -e "$loader" ] || fail "the Rattle kit has no loader where it should have one: set RATTLE_HOME to the kit's folder"
 
-# Where nothing has changed rt is not asked: it may be busy. It does not look for the program itself, nor whether it is what was built.
+# Has rt prove and build the program, which stays in its crate, and run it on no input; takes it to where it belongs.
+# shellcheck disable=SC2016
+build='"$1" run </dev/null >/dev/null 2>&1 && cp "out/$2" "$3.new" && mv "$3.new" "$3"'
+
+# Where nothing has changed rt is not asked: it may be busy.
 now=$(cd "$root" && state)
 if [ ! -x "$program" ] || { [ -e "$program.state" ] && ! is_noted "$program" "$program.state"; }; then
     needs_target
-    rm -f "$root/target/stamp/$name" "$program.state"
+    rm -f "$program.state"
     echo "$name: proving and building it first: a few minutes, once" >&2
 fi
 if ! is_state "$program" "$program.state" "$now"; then
     needs_target
     rm -f "$program.state"
-    { bash "$root/host/alone.sh" "$rt" check "$name" </dev/null >/dev/null 2>&1 && [ -x "$program" ]; } ||
-        fail "not proved or not built: bash host/alone.sh rt check $name says why"
-    note_state "$program" "$program.state" "$now" || fail "target/bin cannot be written"
+    mkdir -p "$root/target/bin" 2>/dev/null || fail "target/bin cannot be written"
+    bash "$root/host/alone.sh" env -C "crates/$name" bash -c "$build" build "$rt" "$name" "$program" </dev/null >/dev/null 2>&1 ||
+        fail "not proved or not built: cd crates/$name && rt run says why"
+    # Of a source that has changed meanwhile nothing is known.
+    [ "$(cd "$root" && state)" != "$now" ] || note_state "$program" "$program.state" "$now" || fail "target/bin cannot be written"
 fi
 
-command=("$loader" --library-path "$tools/lib" "$program")
-[ ! -x "$emulator" ] || command=("$emulator" "${command[@]}")
-$run "${command[@]}"
+$run "$program"

@@ -43,7 +43,7 @@ compiler=$(${CC:-cc} --version 2>/dev/null)
 command -v ar >/dev/null || fail "ar, which makes archives of objects, is not on the PATH"
 command -v nm >/dev/null || fail "nm, which lists the names in objects, is not on the PATH"
 command -v objcopy >/dev/null || fail "objcopy, which changes the names in objects, is not on the PATH"
-clang=$kit/on/$(uname -m)/toolchain/bin/clang
+clang=$kit/toolchain/bin/clang
 kits=$("$clang" --version 2>/dev/null | head -n 1)
 [ -n "$kits" ] || fail "the kit has no clang for $(uname -m)"
 

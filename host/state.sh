@@ -1,12 +1,12 @@
 # shellcheck shell=bash
 # For the scripts that have rt build something from the crates, which read this file: by which word they tell that it is still what it was.
 
-# Prints one word for all that rt builds from, at the root: the kit, whose folder the script has in $kit, and the crates; and for the files
-# named. Where one of these cannot be read it prints nothing, and its status is not 0.
+# Prints one word for all that rt builds from, at the root: the kit, whose folder the script has in $kit, and the crates, without what rt keeps
+# in their folders out/; and for the files named. Where one of these cannot be read it prints nothing, and its status is not 0.
 state() {
     local parts
-    parts=$({ cat "${kit:?}/KIT-ID" crates.txt "$@" && set -o pipefail && find -L crates/ -type f -print0 | LC_ALL=C sort -z | xargs -0 -r sha256sum | grep .; } 2>/dev/null) ||
-        return
+    parts=$({ cat "${kit:?}/KIT-ID" crates.txt "$@" && set -o pipefail &&
+        find -L crates/ -path 'crates/*/out' -prune -o -type f -print0 | LC_ALL=C sort -z | xargs -0 -r sha256sum | grep .; } 2>/dev/null) || return
     sum <<<"$parts"
 }
 

@@ -15,12 +15,12 @@ own_target() {
 }
 
 # Prints the words by which the kit's compiler, asked for x86-64 at its level 3, makes code for the machine of a name instead: for every
-# machine of that kind, and small where there is little room.
+# machine of that kind, and small where there is little room. Memory is cleared in place, with no call of C's memset, up to the 256 bytes of the
+# largest table. For 64-bit Arm the kit has a name of its own, and needs none.
 target_words() {
     case $1 in
-    aarch64-linux-gnu) echo --target=aarch64-unknown-linux-gnu ;;
-    armv7-linux-gnueabihf) echo --target=armv7-unknown-linux-gnueabihf -mfpu=vfpv3-d16 -mfloat-abi=hard ;;
-    thumbv7em-none-eabi) echo --target=thumbv7em-none-eabi -mfpu=none -mfloat-abi=soft -fno-pic -Os ;;
+    armv7-linux-gnueabihf) echo --target=armv7-unknown-linux-gnueabihf -mfpu=vfpv3-d16 -mfloat-abi=hard -mllvm -max-store-memset=64 ;;
+    thumbv7em-none-eabi) echo --target=thumbv7em-none-eabi -mfpu=none -mfloat-abi=soft -fno-pic -Os -mllvm -max-store-memset=64 ;;
     esac
 }
 

@@ -41,7 +41,7 @@ look_at() {
     judge "the archive is for the machine that it is named by, $1" 0
 }
 
-sed -n 's/^pub extern "C" fn \([a-z0-9_]*\).*/T \1/p' crates/panel/src/lib.rt | sort >"$room/entries"
+sed -n 's/^pub extern "C" fn \([a-z0-9_]*\).*/T \1/p' crates/panel_c/src/lib.rt | sort >"$room/entries"
 for target in "${targets[@]}"; do
     into=$(folder_of "$target")
     bash host/panel.sh --for "$target" >/dev/null 2>&1
@@ -54,11 +54,9 @@ for target in "${targets[@]}"; do
 done
 [ $status -eq 0 ] || exit $status
 
-# What rt makes of itself is for x86-64. It is asked in a root of its own, so that it leaves target/ as it is.
-mkdir -p "$room/aside/target" && ln -s "$(pwd -P)"/{crates,crates.txt} "$room/aside/" && ln -s "$(pwd -P)"/target/{log,rlib,stamp} "$room/aside/target/"
-# shellcheck disable=SC2016
-bash host/alone.sh bash -c 'cd "$1" && rt staticlib panel' rt "$room/aside" >/dev/null 2>&1 </dev/null
-verdict "the archive for x86-64 is byte for byte the one that rt makes" "$(cmp "$room/aside/target/staticlib/libpanel.a" "$(folder_of x86_64-linux-gnu)/libpanel.a" 2>&1)"
+# What rt makes of itself is for x86-64.
+bash host/alone.sh env -C crates/panel_c rt lib >"$room/said" 2>&1 </dev/null || tail -n 1 "$room/said"
+verdict "the archive for x86-64 is byte for byte the one that rt makes" "$(cmp crates/panel_c/out/libpanel_c.a "$(folder_of x86_64-linux-gnu)/libpanel.a" 2>&1)"
 
 # The compiler that stands in for the kit's, asked as rt asks it, about a module that names an x86 processor.
 bash host/archive.sh panel "$room/again" armv7-linux-gnueabihf >"$room/said" 2>&1
@@ -66,11 +64,11 @@ verdict "an archive that is made again is the same" "$(cat "$room/said"; cmp "$r
 cat >"$room/module.bc" <<'END'
 target triple = "x86_64-unknown-linux-gnu"
 define i32 @answer() #0 { ret i32 7 }
-attributes #0 = { nounwind "probe-stack"="inline-asm" "target-cpu"="x86-64" }
+attributes #0 = { nounwind "probe-stack"="inline-asm" "stack-probe-size"="3072" "target-cpu"="x86-64-v2" }
 END
-"target/native/armv7-linux-gnueabihf/kit/on/$(uname -m)/toolchain/bin/clang" --target=x86_64-unknown-linux-gnu -march=x86-64 --no-default-config -Werror \
+target/native/armv7-linux-gnueabihf/clang --target=x86_64-unknown-linux-gnu -march=x86-64 --no-default-config -Werror \
     -S -emit-llvm -x ir "$room/module.bc" -o "$room/module.ll" >"$room/said" 2>&1
-wrong=$(head -n 1 "$room/said"; grep -E 'x86|probe-stack' "$room/module.ll")
+wrong=$(head -n 1 "$room/said"; grep -E 'x86|probe' "$room/module.ll")
 grep -q '^target triple = "armv7' "$room/module.ll" || wrong="$wrong no module for armv7"
 verdict "what a module says of an x86 processor is taken out for another machine" "$wrong"
 

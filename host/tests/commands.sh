@@ -1,5 +1,5 @@
 #!/usr/bin/env bash
-# The commands around the programs, in a tree of its own with a stand-in for the kit: what has changed is noticed, what is not proved is not run,
+# The commands around the programs, in a tree of its own with a stand-in for rt: what has changed is noticed, what is not proved is not run,
 # the status is handed on, and one rt runs at a time; host/tests/archive.sh has the same of archives.
 set -u
 cd "$(dirname "${BASH_SOURCE[0]}")/../.." || exit 2
@@ -8,48 +8,49 @@ room=$(mktemp -d) || exit 2
 trap 'rm -rf "$room"' EXIT
 tree=$room/tree
 kit=$room/kit
-tools=$kit/on/$(uname -m)/toolchain
-export PATH=$kit/bin:$PATH RATTLE_HOME=$kit ALONE_IN=''
+export PATH=$kit/bin:$PATH ALONE_IN=''
 
-# ---- the stand-ins
+# ---- the stand-in
 
-mkdir -p "$kit/bin" "$tools/lib" "$tools/bin" "$room/bin"
+mkdir -p "$kit/bin"
 echo 'a kit' >"$kit/KIT-ID"
-# The loader runs what it is to load.
-printf '#!/usr/bin/env bash\nshift 2\nexec bash "$@"\n' >"$tools/lib/ld-linux-x86-64.so.2"
-# rt notes each call, and that another was there at the time; it refuses where $room/refuse is there, leaves no program where $room/nothing is,
-# and else one that does what $room/program says. As the true one does, it leaves a program alone as long as its stamp has the sources, and takes
-# target/ away for ci.
+# rt notes each call with the folder, and that another was there at the time; it refuses where $room/refuse is there, leaves no program where
+# $room/nothing is, and else one that does what $room/program says. As the true one does, it leaves a program alone as long as its stamp has
+# the sources and the program is the one that was built, keeps all in the crate's folder out/, and takes that away while ci runs.
 cat >"$kit/bin/rt" <<RT
 #!/usr/bin/env bash
-echo "\$*" >>"$room/calls"
+name=\${PWD##*/}
+echo "\$* \$name" >>"$room/calls"
 mkdir "$room/busy" 2>/dev/null || echo overlap >>"$room/calls"
 [ ! -e "$room/slow" ] || sleep 0.3
 rmdir "$room/busy" 2>/dev/null
 [ ! -e "$room/refuse" ] || exit 1
-mkdir -p target/bin target/staticlib target/stamp
 case \$1 in
-check)
-    now=\$(find -L crates/ -type f -exec cat {} + | cksum)
-    [ ! -e "$room/nothing" ] || exit 0
-    [ "\$(cat "target/stamp/\$2" 2>/dev/null)" = "\$now" ] || cp "$room/program" "target/bin/\$2"
-    chmod +x "target/bin/\$2"
-    echo "\$now" >"target/stamp/\$2"
+run)
+    now=\$(find -L .. -path '*/out' -prune -o -type f -exec cat {} + | cksum)
+    [ ! -e "$room/nothing" ] || { rm -f "out/\$name" && exit 0; }
+    mkdir -p out
+    [ "\$(cat out/stamp 2>/dev/null)" = "\$now\$(cksum <"out/\$name" 2>/dev/null)" ] || cp "$room/program" "out/\$name"
+    chmod +x "out/\$name"
+    echo "\$now\$(cksum <"out/\$name")" >out/stamp
     ;;
-staticlib) : >"target/staticlib/lib\$2.a" ;;
-ci) rm -rf target ;;
+lib) mkdir -p out && : >"out/lib\$name.a" ;;
+ci) rm -rf crates/*/out ;;
 esac
 RT
-chmod +x "$kit/bin/rt" "$tools/lib/ld-linux-x86-64.so.2"
+chmod +x "$kit/bin/rt"
+
+# Has the program do what the word says.
+does() { printf '#!/usr/bin/env bash\n%s\n' "$1" >"$room/program"; }
 
 # Makes the tree anew, with nothing built in it, and forgets all calls.
 plant() {
     rm -rf "$tree" "$room/calls" "$room/refuse" "$room/nothing" "$room/slow"
     mkdir -p "$tree" && cp -R bin host crates.txt "$tree/" || exit 2
-    mkdir -p "$tree/crates/lines/src" "$tree/crates/panel/src"
+    mkdir -p "$tree/crates/lines/src" "$tree/crates/panel_c/src"
     echo 'fn main() {}' >"$tree/crates/lines/src/main.rt"
-    echo 'pub fn entry() {}' >"$tree/crates/panel/src/lib.rt"
-    echo 'cat' >"$room/program"
+    echo 'pub fn entry() {}' >"$tree/crates/panel_c/src/lib.rt"
+    does cat
     : >"$room/calls"
 }
 
@@ -66,7 +67,7 @@ answers() {
     lines
     ended=$?
     echo in >"$room/wanted"
-    [ "$(calls '^check lines$')" -eq "$3" ] || echo "rt was called $(calls .) times" >>"$room/said"
+    [ "$(calls '^run lines$')" -eq "$3" ] || echo "rt was called $(calls .) times" >>"$room/said"
     judge "$1" $ended 0 "$([ "$2" != first ] || echo "lines: proving and building it first: a few minutes, once")"
 }
 
@@ -93,7 +94,7 @@ answers "and makes it look each time" again 8
 echo 'a kit' >"$kit/KIT-ID"
 rm "$tree/target/bin/lines"
 answers "a program that was taken away is built again" first 9
-echo 'echo another' >"$tree/target/bin/lines"
+does 'echo another' && cp "$room/program" "$tree/target/bin/lines" && does cat
 answers "a program that is another than was built is built again" first 10
 mkdir "$room/linked" && echo 'pub fn more() {}' >"$room/linked/lib.rt" && ln -s "$room/linked" "$tree/crates/linked"
 answers "a source behind a link is one" again 11
@@ -109,7 +110,7 @@ refuses() {
     lines
     judge_refusal "$1" $? "$2"
 }
-says_why='lines: not proved or not built: bash host/alone.sh rt check lines says why'
+says_why='lines: not proved or not built: cd crates/lines && rt run says why'
 plant
 answers "a program is built, to be changed" first 1
 cp "$tree/crates/lines/src/main.rt" "$room/main"
@@ -132,7 +133,7 @@ $says_why"
 # One case: a program that does what the second word says ends the command with the status of the third, which says the fourth.
 hands_on() {
     plant
-    echo "$2" >"$room/program"
+    does "$2"
     lines && lines
     lines
     ended=$?
@@ -150,7 +151,8 @@ hands_on "whatever else a program says is handed on, and is no failure" 'echo "l
 
 # A signal for the command, while the program waits for its input, is one for the program.
 plant
-echo 'echo $$ >"$0.pid"; read -r line' >"$room/program"
+# shellcheck disable=SC2016
+does 'echo $$ >"$0.pid"; read -r line'
 lines
 : >"$tree/target/bin/lines.pid"
 mkfifo "$room/fifo"
@@ -182,7 +184,7 @@ for i in 1 2; do
 done
 wait
 verdict "commands, archives and the gate of one tree wait for each other's rt" \
-    "$([ "$(calls .)" -ge 4 ] && [ "$(calls '^ci$')" -eq 2 ] && [ "$(calls '^staticlib ')" -ge 1 ] && [ "$(calls overlap)" -eq 0 ] || paste -s -d ';' "$room/calls")"
+    "$([ "$(calls .)" -ge 4 ] && [ "$(calls '^ci tree$')" -eq 2 ] && [ "$(calls '^lib panel_c$')" -ge 1 ] && [ "$(calls overlap)" -eq 0 ] || paste -s -d ';' "$room/calls")"
 
 # ---- a tree that cannot be written
 

@@ -41,7 +41,7 @@ unit_tests "all unit tests of the program compare pass" "$(grep -rhF '#[test]' h
 
 # Prints the functions for C that the crates have, as Rust declares them: a lent slice is a pointer and a length.
 declared() {
-    sed -n 's/^pub extern "C" fn \(.*\)(\(.*\)) -> \(.*\)$/fn \1(\2) -> \3/p' crates/{panel,trial}/src/lib.rt |
+    sed -n 's/^pub extern "C" fn \(.*\)(\(.*\)) -> \(.*\)$/fn \1(\2) -> \3/p' crates/{panel,trial}_c/src/lib.rt |
         sed 's/\([a-z_]*\): &\[\(u8\|u32\)\]/\1: *const \2, \1_len: usize/g
             s/\([a-z_]*\): &mut \[u8\]/\1: *mut u8, \1_len: usize/g' | sort
 }

@@ -90,7 +90,7 @@ says docs/LOGS.md "$answered" 'at most the first % bytes'
 says docs/ROWS.md "$answered" 'reads the first % bytes'
 says docs/DECISIONS.md "$answered" 'behind the first % bytes'
 says docs/DRILL.md "$(most_of drill)" 'a script with more than % bytes'
-for_c=$(grep -c '^pub extern "C" fn ' crates/panel/src/lib.rt)
+for_c=$(grep -c '^pub extern "C" fn ' crates/panel_c/src/lib.rt)
 says docs/DECISIONS.md "$for_c" '**@ entries, and no more.**'
 says docs/DECISIONS.md "$for_c" '`libpanel.a` has the @ entries alone'
 says README.md "$(sed -n '/^```c$/,/^```$/p' docs/C.md | grep -vc '^```')" 'a program of @ lines'

@@ -13,8 +13,7 @@ plant() {
     local test
     rm -rf "$tree"
     mkdir -p "$tree/.ci" "$tree/host/tests" "$tree/crates" "$tree/kit" "$tree/scratch" || exit 2
-    cp .ci/run "$tree/.ci/" && cp host/{alone,command}.sh "$tree/host/" || exit 2
-    echo : >"$tree/host/program.sh"
+    cp .ci/run "$tree/.ci/" && cp host/{alone,command,state,take}.sh "$tree/host/" || exit 2
     says rt 'echo a crate is proved; echo 5 passed, 0 failed'
     for test in documents lines panel pictures rows speed; do
         says $test 'echo ok one; echo "ok another"'
@@ -103,7 +102,15 @@ with_rt "rt that is killed is a failure" 'echo 5 passed, 0 failed; kill -KILL $$
     'rt ci ended with status 137 and named no failure: counted as a failure'
 # shellcheck disable=SC2016
 with_rt "rt that is killed with what waits for it is a failure" 'echo 5 passed, 0 failed; kill -KILL $PPID; sleep 0.2; kill -KILL $$' \
-    '17 passed, 1 failed' 'rt ci ended with status 137 and named no failure: counted as a failure'
+    '17 passed, 1 failed' 'rt ci left no status: counted as a failure'
+ok='echo "rt: ok; handles allowed: none; must-fail edits: 7 refused, 2 bad; every proof and must-fail edit was done in this run"'
+with_rt "must-fail edits that rt cannot try are failures" "$ok; echo 5 passed, 0 failed" '17 passed, 2 failed' \
+    'rt ci has must-fail edits that are bad, and tried none of them: counted as failures, 2'
+plant
+says rt "${ok/, 2 bad/}; echo 5 passed, 0 failed"
+ends "must-fail edits that are all refused are well" 0 '17 passed, 0 failed'
+says rt '[ "$*" = ci ] && [ "$PWD" = "$(cd -P "$(dirname "$0")/.." && pwd)" ] || exit 3; echo 5 passed, 0 failed'
+ends "rt is asked once, for all, at the root" 0 '17 passed, 0 failed'
 plant
 rm "$tree/kit/rt"
 PATH=$(dirname "$(command -v bash)"):/usr/bin:/bin ends "a machine without rt is no pass" 1 '12 passed, 1 failed' 'rt ci came to no count: counted as a failure'
@@ -116,8 +123,23 @@ plant
 : >"$room/wanted"
 alone=$tree
 (gate)
-judge "a gate that would wait for itself is refused" $? 2 "the gate asks for rt itself, by host/alone.sh, and would wait for itself"
+judge "a gate that would wait for itself is refused" $? 2 "the gate asks for rt itself, as by host/alone.sh, and would wait for itself"
 alone=''
+
+# Cases: of a crate x with a program, which rt ci builds and, by the first word, does something else to, the program is taken, or is not by the
+# second.
+while IFS='|' read -r more kept; do
+    plant
+    mkdir -p "$tree/crates/x/src" && echo 'fn main() {}' >"$tree/crates/x/src/main.rt" && echo 'x:' >"$tree/crates.txt" && echo 'a kit' >"$tree/KIT-ID"
+    says rt "mkdir -p crates/x/out; echo built >crates/x/out/x; chmod +x crates/x/out/x; $more"
+    (gate)
+    verdict "what rt ci has built is${kept:+ not} taken: $more" "$([ "$(cat "$tree/target/bin/x" 2>&1)${kept:-built}" = "builtbuilt" ] ||
+        { [ -n "$kept" ] && [ ! -e "$tree/target" ]; } || ls -R "$tree/target" 2>&1 | paste -s -d ' ')"
+done <<'BUILT'
+echo 5 passed, 0 failed|
+echo // more >>crates/x/src/main.rt; echo 5 passed, 0 failed|not
+echo 4 passed, 1 failed; exit 1|not
+BUILT
 
 # ---- a signal
 

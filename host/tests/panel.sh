@@ -60,7 +60,7 @@ verdict "the header alone is good C++, without a warning" "$wrong"
 
 # The declarations in C of the entries that the crate exports.
 declared() {
-    sed -n 's/^pub extern "C" fn \(.*\)(\(.*\)) -> u32$/uint32_t \1(\2);/p' crates/panel/src/lib.rt |
+    sed -n 's/^pub extern "C" fn \(.*\)(\(.*\)) -> u32$/uint32_t \1(\2);/p' crates/panel_c/src/lib.rt |
         sed 's/\([a-z_]*\): &\[u8\]/const uint8_t *\1, uint64_t \1_len/g' | sort
 }
 # The declarations of a header.
@@ -68,7 +68,7 @@ declares() { grep -E '^[a-z].*\);$' "$1" | sort; }
 declared >"$room/wanted"
 declares $header >"$room/wrote"
 : >"$room/said"
-[ "$(grep -c '^pub extern "C" fn ' crates/panel/src/lib.rt)" -eq "$(wc -l <"$room/wanted")" ] || echo "an entry of the crate was not understood" >"$room/said"
+[ "$(grep -c '^pub extern "C" fn ' crates/panel_c/src/lib.rt)" -eq "$(wc -l <"$room/wanted")" ] || echo "an entry of the crate was not understood" >"$room/said"
 judge "the header declares the entries of the crate, as they are" 0
 
 sed 's/uint64_t \([a-z]*_len\)/size_t \1/g' $header >"$room/narrow.h"
@@ -107,7 +107,7 @@ judge "the file for pkg-config has the version of the header" 0
 
 # Whatever the archive has but code and constants of its own; names with $ mark places.
 nm target/panel/libpanel.a | sed -n '/ \$/d; s/^[0-9a-f ]* \([^rt]\) \(.*\)$/\1 \2/p' | sort >"$room/wrote"
-sed -n 's/^pub extern "C" fn \([a-z0-9_]*\).*/T \1/p' crates/panel/src/lib.rt | sort >"$room/wanted"
+sed -n 's/^pub extern "C" fn \([a-z0-9_]*\).*/T \1/p' crates/panel_c/src/lib.rt | sort >"$room/wanted"
 : >"$room/said"
 judge "the archive has those entries, keeps no state and needs nothing else" 0
 

@@ -106,13 +106,13 @@ notices() {
     judge "noticed: $1" $ended 1
     [ -z "$(untouched)" ] || verdict "nothing is written with --check" "$(untouched)"
 }
-notices "a row that enters another state" $private_effects '/^effectOf R8 /s/State.P3 tfp3/State.P1 noTimer/' "not up to date: docs/private-call.svg"
-notices "a row that sends something else" $private_effects '/^effectOf R26 /s/Reason.Failed/Reason.Reject/' "not up to date: docs/private-call.svg"
+notices "a row that enters another state" $private_effects '/^effect_of R8 /s/State.P3 tfp3/State.P1 no_timer/' "not up to date: docs/private-call.svg"
+notices "a row that sends something else" $private_effects '/^effect_of R26 /s/Reason.Failed/Reason.Reject/' "not up to date: docs/private-call.svg"
 notices "a row that is met in one state less" $private_rows \
-    's/(R13, (inState 3 f || (inState 4 f || inState 5 f))/(R13, (inState 4 f || inState 5 f)/' "not up to date: docs/private-call.svg"
-notices "a verb that does something else" $group_effects '/^restarts /s/stop = timers/stop = noTimer/' \
+    's/(R13, (in_state 3 f || (in_state 4 f || in_state 5 f))/(R13, (in_state 4 f || in_state 5 f)/' "not up to date: docs/private-call.svg"
+notices "a verb that does something else" $group_effects '/^restarts /s/stop = timers/stop = no_timer/' \
     "not up to date: docs/group-call.svg" "$page: it tells what 'restarts' is, which no picture has"
-notices "a condition that several rows share" $private_asking '/^newRequest /s/Cause.SetupHeard/Cause.RingingHeard/' "not up to date: docs/private-call.svg"
+notices "a condition that several rows share" $private_asking '/^new_request /s/Cause.SetupHeard/Cause.RingingHeard/' "not up to date: docs/private-call.svg"
 notices "another timer in a state" crates/group_record/specs/States.antt \
     '/^tfg4 = /s/tfg4 = true; tfg6 = false/tfg4 = false; tfg6 = true/' "not up to date: docs/group-call.svg" \
     "$page: TFG4: runs in , not in S4, S5" "$page: TFG4: what is waited for is the end of , not the user who is asked" \
@@ -141,9 +141,9 @@ notices "counters that count something else" $page 's/RELEASE and ACCEPT went/AC
     "$page: it does not say 'CFP1, CFP3 and CFP4 count how often SETUP REQUEST, RELEASE and ACCEPT went out without an answer'"
 notices "another limit" crates/call/specs/Settings.antt 's/within 1 limit 16/within 1 limit 8/' \
     "$page: it does not say 'has a limit from 1 to 8 in the settings'"
-notices "another first state" crates/private_record/specs/Formed.antt '/^clearedRecord /s/State.P0/State.P1/' "$page: it does not say 'A new record is in P1.'"
+notices "another first state" crates/private_record/specs/Formed.antt '/^cleared_record /s/State.P0/State.P1/' "$page: it does not say 'A new record is in P1.'"
 notices "an accept that is sent in another state" $page 's/in S5 only/in S4 only/' "$page: it does not say 'an accept sends GROUP ACCEPT in S5 only'"
-notices "a timer with another counter" $private_phases '/^countOf Phase.P3 /s/cfp3/cfp4/' \
+notices "a timer with another counter" $private_phases '/^count_of Phase.P3 /s/cfp3/cfp4/' \
     "$page: TFP3: its counter is CFP4, not CFP3" "$page: CFP4 does not have the number of TFP3" \
     "$page: it does not say 'CFP1, CFP4 and CFP4 count how often SETUP REQUEST, RELEASE and ACCEPT went out without an answer'"
 notices "a timer that starts by another rule" $page 's/by the rule for P1/by the rule for P0/' "$page: it does not say 'TFP7 is started by the rule for P1,'"
@@ -156,13 +156,13 @@ notices "a fact that docs/ROWS.md calls by its opposite" host/rows/group-call.wo
 # Prints PAGE:WORDS for each place that names the first row or state up to another than the last.
 spans_wrong() {
     local last
-    for last in "R1 to R$(rows_in $private_rows | wc -l)" "G1 to G$(rows_in $group_rows | wc -l)" "P0 to P$(($(grep -c '^stateNumber State' $private_phases) - 1))"; do
+    for last in "R1 to R$(rows_in $private_rows | wc -l)" "G1 to G$(rows_in $group_rows | wc -l)" "P0 to P$(($(grep -c '^state_number State' $private_phases) - 1))"; do
         grep -oE "\b${last% *} ${last:6:1}[0-9]+" README.md docs/*.md docs/*.svg host/pictures.sh crates/*/specs/*.antt crates/*/src/*.rt | grep -v ":$last\$"
     done
 }
 verdict "wherever the rows and states are named from the first on, it is up to the last" "$(spans_wrong | paste -s -d ' ')"
 
-states=$(sed -n 's/^stateNumber State\.\(S[0-9]\) .*/\1/p' crates/group_record/specs/States.antt | paste -s -d ' ' | sed 's/ /, /g; s/\(.*\),/\1 and/')
+states=$(sed -n 's/^state_number State\.\(S[0-9]\) .*/\1/p' crates/group_record/specs/States.antt | paste -s -d ' ' | sed 's/ /, /g; s/\(.*\),/\1 and/')
 wrong=''
 for file in $page docs/group-call.svg $command; do
     grep -qF "The states $states " "$file" || wrong="$wrong $file"
@@ -179,24 +179,24 @@ refuses() {
     judge_refusal "refused: $1" $? "pictures: $4"
     [ -z "$(untouched)" ] || verdict "nothing is written where a table cannot be read" "$(untouched)"
 }
-refuses "a verb that is not defined" $private_effects '/^effectOf R8 /s/enters/jumps/' \
+refuses "a verb that is not defined" $private_effects '/^effect_of R8 /s/enters/jumps/' \
     "$private_effects: R8: cannot read 'jumps State.P3 tfp3 Hold.Keep Say.Release'"
-refuses "a state that is none" $private_effects '/^effectOf R8 /s/State.P3/State.P6/' \
+refuses "a state that is none" $private_effects '/^effect_of R8 /s/State.P3/State.P6/' \
     "$private_effects: R8: enters 'State.P6', which is no state of $private_phases"
-refuses "timers that do not run in the state entered" $private_effects '/^effectOf R8 /s/tfp3/tfp4/' \
+refuses "timers that do not run in the state entered" $private_effects '/^effect_of R8 /s/tfp3/tfp4/' \
     "$private_effects: R8: enters P3 with timers that do not run there: 'TFP4'"
-refuses "a row that does nothing known" $private_effects '/^effectOf R8 /d' \
-    "$private_effects: R8: effectOf has no clause for it, but it is in rowsAsk of $private_rows"
+refuses "a row that does nothing known" $private_effects '/^effect_of R8 /d' \
+    "$private_effects: R8: effect_of has no clause for it, but it is in rows_ask of $private_rows"
 refuses "a row that asks nothing known" $private_rows '/(R8, /d' \
-    "$private_rows: R8: is not in rowsAsk, but $private_effects has a clause for it"
+    "$private_rows: R8: is not in rows_ask, but $private_effects has a clause for it"
 refuses "a condition without a word" $group_rows '/(G9, /s/better_rank/worse_rank/' \
     "$group_rows: G9: host/pictures/group-call.words has no word for the fact worse_rank"
-refuses "a condition of another form" $group_rows '/(G8, /s/inState 3 f/above 3 f/' "$group_rows: G8: cannot read 'above 3'"
-refuses "a plain word that means something else" $private_asking '/^inState n f/s/ n$/ 0/' \
-    "$private_asking: inState: cannot read it, since it is defined in another way"
-refuses "causes that are compared in another way" crates/group_rows/specs/Causes.antt '/^sameCause c d/s/causeNumber d/causeNumber c/' \
-    "crates/group_rows/specs/Causes.antt: sameCause: cannot read it, since it is defined in another way"
-refuses "a way for which there is no arrow" $private_effects '/^effectOf R8 /s/State.P3 tfp3/State.P0 noTimer/' \
+refuses "a condition of another form" $group_rows '/(G8, /s/in_state 3 f/above 3 f/' "$group_rows: G8: cannot read 'above 3'"
+refuses "a plain word that means something else" $private_asking '/^in_state n f/s/ n$/ 0/' \
+    "$private_asking: in_state: cannot read it, since it is defined in another way"
+refuses "causes that are compared in another way" crates/group_rows/specs/Causes.antt '/^same_cause c d/s/cause_number d/cause_number c/' \
+    "crates/group_rows/specs/Causes.antt: same_cause: cannot read it, since it is defined in another way"
+refuses "a way for which there is no arrow" $private_effects '/^effect_of R8 /s/State.P3 tfp3/State.P0 no_timer/' \
     "host/pictures/private-call.layout: no arrow from P2 to P0, where R8 leads"
 refuses "an arrow through a text" host/pictures/group-call.layout 's/^arrow S1 S3 .*/arrow S1 S3 230,76 230,424/' \
     "host/pictures/group-call.layout: the arrow S1 to S3 runs through the label of the arrow S1 to S3"
@@ -221,19 +221,19 @@ refuses "two states that are exchanged" $words 's/^state P2 .*/state P2 pending/
     "$words: state P2: is called 'pending', but means 'waiting for response'"
 refuses "a state with confirm that has none" $group_effects '/^waits /s/State.S5 State.S4/State.S4 State.S5/' \
     "$group_effects: waits: cannot read it, since it is defined in another way"
-refuses "a state with another's number" $private_phases '/^stateNumber State.P3 /s/3$/4/; /^stateNumber State.P4 /s/4$/3/' \
-    "$private_phases: stateNumber: gives 4 to P3"
+refuses "a state with another's number" $private_phases '/^state_number State.P3 /s/3$/4/; /^state_number State.P4 /s/4$/3/' \
+    "$private_phases: state_number: gives 4 to P3"
 refuses "another reason" $words 's/(BUSY)/(FAILED)/' "$words: say RejectOther: is called 'REJECT (FAILED)', but means 'REJECT (BUSY)'"
-refuses "a reason with another number" $private_carried '/^reasonNumber Reason.Failed /s/4/0/' \
+refuses "a reason with another number" $private_carried '/^reason_number Reason.Failed /s/4/0/' \
     "$words: reason Failed: is called 'FAILED', but means 'REJECT'"
 refuses "two stores that are exchanged" $group_words 's/^hold Change .*/hold Change stores a later change/; s/^\(hold LaterChange\) .*/\1 stores the change/' \
     "$group_words: hold Change: is called 'stores a later change', but means 'stores the change'"
-refuses "a store that means something else" $private_carried '/^heldOf Hold.Media /s/= .*/= callOf r media/' \
-    "${words%.words}.meanings: no definition reads 'heldOf Hold.Media stored r media = withMedia stored media'"
-refuses "a fact that means something else" $private_causes 's/= i .verdicts .media;/= i .verdicts .signature;/' \
-    "${words%.words}.meanings: no definition reads 'media_verdict = i .verdicts .media'"
-refuses "a message that is not heard" $private_causes '/^messageCause own (Ringing /s/RingingHeard/Other/' "$words: cause RingingHeard: no definition has it"
-refuses "a message that is another one" $private_carried '/^sentOf s Say.Ringing /s/(Ringing /(Accept /' \
+refuses "a store that means something else" $private_carried '/^held_of Hold.Media /s/= .*/= call_of r media/' \
+    "${words%.words}.meanings: no definition reads 'held_of Hold.Media stored r media = with_media stored media'"
+refuses "a fact that means something else" $private_causes 's/= i.verdicts.media;/= i.verdicts.signature;/' \
+    "${words%.words}.meanings: no definition reads 'media_verdict = i.verdicts.media'"
+refuses "a message that is not heard" $private_causes '/^message_cause own (Ringing /s/RingingHeard/Other/' "$words: cause RingingHeard: no definition has it"
+refuses "a message that is another one" $private_carried '/^sent_of s Say.Ringing /s/(Ringing /(Accept /' \
     "$words: say Ringing: is called 'RINGING', but means 'ACCEPT'"
 
 # One case: these words are no way to call it.

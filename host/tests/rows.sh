@@ -71,7 +71,7 @@ notices "a message that does not hang on confirm" $group_effects '/^effect_of G4
 notices "a row that is met in one state less" $private/Rows.antt \
     's/(R13, (in_state 3 f || (in_state 4 f || in_state 5 f))/(R13, (in_state 4 f || in_state 5 f)/' R13 \
     '| P4, P5 | 05 RELEASE same | *TFP5* in P4, *TFP2* or *TFP4* in P5 | *TFP7* | - | *CFP4 0* in P5 |'
-notices "a verdict that is not asked for" $private/Rows.antt '/(R5, /s/ && x .«media_verdict»//; /(R5, /s/ (same/ same/; /(R5, /s/x))$/x)/' R5 \
+notices "a verdict that is not asked for" $private/Rows.antt '/(R5, /s/ && x.media_verdict//; /(R5, /s/ (same/ same/; /(R5, /s/x))$/x)/' R5 \
     '| 03 ACCEPT same | *TFP1* or *TFP2* |'
 notices "a timer that need not run" $private/Rows.antt \
     '/(R25, /s/(runs PrivateTimer.Tfp2 f \&\& same_cause c Cause.UserRejects))/same_cause c Cause.UserRejects)/' R25 \
@@ -109,10 +109,10 @@ refuses "a row that is not met by the same events in each of its states" $group/
     "$group/Rows.antt: G7: cannot say it in one line, since it is not met by the same events in each of its states"
 refuses "a plain word that means something else" $private/Causes.antt '/^same_cause /s/cause_number d/cause_number c/' \
     "$private/Causes.antt: same_cause: cannot read it, since it is defined in another way"
-refuses "another rule of what runs afterwards" crates/call/specs/Timing.antt '/^runs_after /s/ && not (x .«ran_out»)//' \
-    "host/rows/both.rules: no definition reads 'runs_after x = x .started || ( x .was_running && ( not ( is_stopped x ) && not ( x .ran_out ) ) )'"
-refuses "a counter that goes with another timer" $private_carried 's/= running .tfp4;/= running .tfp3;/' \
-    "$private_carried: counters_after: cannot read 'cfp4 = counter_after ( record { runs = running .tfp3 ; started = started .tfp4 ; again = again ; limit = limits .cfp4 ; was = counters .cfp4 } )'"
+refuses "another rule of what runs afterwards" crates/call/specs/Timing.antt '/^runs_after /s/ && not x.ran_out//' \
+    "host/rows/both.rules: no definition reads 'runs_after x = x.started || ( x.was_running && ( not ( is_stopped x ) && not x.ran_out ) )'"
+refuses "a counter that goes with another timer" $private_carried 's/= running.tfp4;/= running.tfp3;/' \
+    "$private_carried: counters_after: cannot read 'cfp4 = counter_after ( record { runs = running.tfp3 ; started = started.tfp4 ; again = again ; limit = limits.cfp4 ; was = counters.cfp4 } )'"
 refuses "a store that means something else" crates/group_call/specs/Carried.antt '/^held_of Hold.Announced /s/= brought/= stored/' \
     "host/rows/group-call.rules: no definition reads 'held_of Hold.Announced stored brought = brought'"
 refuses "a clause that is not quoted" $private_carried '/^held_of Hold.Keep /i held_of hold stored r media = stored' \
@@ -139,14 +139,14 @@ while read -r name file by; do
 done <<'CHANGES'
 stopped_of private_call/Carried /^stopped_of /s/is_stopped/runs_after/
 running_after private_call/Carried /^running_after /s/runs_after/is_stopped/
-timer_facts private_call/Carried s/«stop_asked» = has (x .«stop_asked») t/«stop_asked» = has (x .«ran_out») t/
-started_of private_call/Carried s/tfp5 = start .tfp5;/tfp5 = start .tfp4;/
+timer_facts private_call/Carried s/stop_asked = has x.stop_asked t/stop_asked = has x.ran_out t/
+started_of private_call/Carried s/tfp5 = start.tfp5;/tfp5 = start.tfp4;/
 started_of private_call/Carried s/^started_of state to start/started_of to state start/
-started_by private_call/Carried /^started_by /s/(x .to)/state/
+started_by private_call/Carried /^started_by /s/x.to/state/
 counters_after private_call/Carried s/^counters_after running started/counters_after started running/
 timer_out private_call/Carried /^timer_out (Timer.Group t)/s/no_timer/tfp1/
-with_media private_call/Carried s/record { parties = stored .parties; commencement = stored .commencement; media = media;/record { parties = stored .parties; commencement = stored .commencement; media = stored .media;/
-carry_out private_call/Carried s/(request_of s (i .event)) (i .media)/(request_of s (i .event)) (p .call .media)/
+with_media private_call/Carried s/record { parties = stored.parties; commencement = stored.commencement; media = media;/record { parties = stored.parties; commencement = stored.commencement; media = stored.media;/
+carry_out private_call/Carried s/(request_of s i.event) i.media/(request_of s i.event) p.call.media/
 message_cause private_rows/Causes /^message_cause own (Ringing p)/s/RingingHeard/AcceptHeard/
 private_action_cause private_rows/Causes /^private_action_cause PrivateAction.End /s/UserEnds/UserRejects/
 action_cause private_rows/Causes /^action_cause (Action.Group a)/s/Other/UserStarts/
@@ -156,17 +156,17 @@ cause_of private_rows/Causes /^cause_of s (Event.Message m)/s/own_user/own_group
 same_of private_rows/Causes /^same_of (Event.Action a)/s/false/true/
 cause_number private_rows/Causes /^cause_number Cause.Other /s/17/0/
 row_in private_rows/Rows /^row_in /s/first_met Discard/first_met R1/
-row_of private_rows/Rows /^row_of /s/(p .counters)/(s .limits)/
-phase_of private_record/Phases /^phase_of /s/(p .running)/no_timer/
+row_of private_rows/Rows /^row_of /s/p.counters/s.limits/
+phase_of private_record/Phases /^phase_of /s/p.running/no_timer/
 has private_record/Phases /^has w PrivateTimer.Tfp7 /s/tfp7/tfp5/
 no_call private_record/Formed /^no_call /s/commencement = 0/commencement = 1/
-first_met call/Meeting /^first_met none (row/s/(row .1) (row .0) (first_met none rows)/(row .1) (first_met none rows) (row .0)/
+first_met call/Meeting /^first_met none (row/s/row.1 row.0 (first_met none rows)/row.1 (first_met none rows) row.0/
 restricted call/Settings /^restricted /s/restrict$/acknowledgement/
-private_request call/Request s/commencement = commencement; «call_type» = private_type/commencement = 0; «call_type» = private_type/
+private_request call/Request s/commencement = commencement; call_type = private_type/commencement = 0; call_type = private_type/
 stopped_of group_call/Carried /^stopped_of /s/is_stopped/runs_after/
 running_after group_call/Carried /^running_after /s/runs_after/is_stopped/
-timer_facts group_call/Carried s/started = has (x .started) t/started = has (x .«stop_asked») t/
-carry_out group_call/Carried s/(announced_of s (i .event) .confirm) 1/(announced_of s (i .event) .confirm) 0/
+timer_facts group_call/Carried s/started = has x.started t/started = has x.stop_asked t/
+carry_out group_call/Carried s/(announced_of s i.event).confirm 1/(announced_of s i.event).confirm 0/
 message_cause group_rows/Causes /^message_cause own (GroupAccept a)/s/Other/AnnouncementHeard/
 group_action_cause group_rows/Causes /^group_action_cause GroupAction.Leave /s/UserLeaves/UserRejects/
 action_cause group_rows/Causes /^action_cause (Action.Private a)/s/Other/UserStarts/
@@ -174,8 +174,8 @@ group_timer_cause group_rows/Causes /^group_timer_cause GroupTimer.Tfg2 /s/Tfg2E
 timer_cause group_rows/Causes /^timer_cause (Timer.Private t)/s/Other/Tfg2Expires/
 cause_of group_rows/Causes /^cause_of s (Event.Message m)/s/own_group/own_user/
 row_in group_rows/Rows /^row_in /s/first_met Discard/first_met G1/
-row_of group_rows/Rows /^row_of /s/(announced_of s e .call)/(g .call)/
-group_action_announced call/Announced /^group_action_announced s (GroupAction.Start x)/s/confirm = x .confirm/confirm = 0/
+row_of group_rows/Rows /^row_of /s/(announced_of s e).call/g.call/
+group_action_announced call/Announced /^group_action_announced s (GroupAction.Start x)/s/confirm = x.confirm/confirm = 0/
 CHANGES
 
 # ---- how it is called

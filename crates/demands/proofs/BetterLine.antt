@@ -1,7 +1,6 @@
 -- Of two announcement lines the chooser gives that of the better call. Assumes nothing.
 use mathlib.Core.Path.{◌≡◌, ap}
 use mathlib.Core.Logic.{◌⊎◌, inl, inr}
-use mathlib.Core.List.{List}
 use mathlib.Core.Bool.{true}
 use Prim.Native.Nat.{ℕ}
 use Rattle.group_order.specs.Order.{is_better}

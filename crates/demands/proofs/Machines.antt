@@ -1,5 +1,5 @@
 -- What is asked of the steps of every call machine, proved of the private one. Assumes nothing.
-use mathlib.Core.Path.{◌≡◌, sym, ap, ◌∙◌, subst}
+use mathlib.Core.Path.{sym, ap, ◌∙◌, subst}
 use Rattle.call.specs.declared.Send.{Send}
 use Rattle.stepping.proofs.Stepping.{SentGood}
 use Rattle.private_call.specs.Step.{done_of}

@@ -3,7 +3,7 @@ use Rattle.std.specs.Prelude.{Bool, true, false, ℕ}
 use Rattle.frame.specs.Range.{private_type}
 use Rattle.frame.specs.declared.Media.{Media}
 use Rattle.frame.specs.declared.Message.{Message}
-use Rattle.frame.specs.declared.Message.TheVariants.{SetupRequest, Accept}
+use Rattle.frame.specs.declared.Message.TheVariants.{SetupRequest}
 use Rattle.call.specs.declared.Counters.{Counters}
 use Rattle.call.specs.declared.Settings.{Settings}
 use Rattle.call.specs.declared.PrivateTimer.{PrivateTimer}

@@ -83,7 +83,14 @@ fn put_line(out: &mut [u8], digits: &[u8], ended: bool) -> usize {
 }
 
 // Tells what the reader or the chooser answers, a number and perhaps a line; whether that could be written.
-fn tell_answer(rt: &impl Print, command: usize, cab: usize, machine: usize, number: u8, chosen: &[u8]) -> bool {
+fn tell_answer(
+    rt: &impl Print,
+    command: usize,
+    cab: usize,
+    machine: usize,
+    number: u8,
+    chosen: &[u8],
+) -> bool {
     let mut line = beginning(command, cab, machine, number);
     line = put_text(line, b" - - - - - - -");
     line = put_field(line, chosen);
@@ -91,13 +98,26 @@ fn tell_answer(rt: &impl Print, command: usize, cab: usize, machine: usize, numb
 }
 
 // Has both machines of a cab take a step.
-fn take_both_steps(rt: &impl Print, shift: Shift, cab: usize, command: usize, input: Input) -> Shift {
+fn take_both_steps(
+    rt: &impl Print,
+    shift: Shift,
+    cab: usize,
+    command: usize,
+    input: Input,
+) -> Shift {
     let stepped = take_step(rt, shift, cab, command, true, input);
     take_step(rt, stepped, cab, command, false, input)
 }
 
 // Has both machines of a cab take a step on a line, unless the reader refuses it.
-fn hear(rt: &impl Print, shift: Shift, cab: usize, command: usize, line: &[u8], named: &[u64; 16]) -> Shift {
+fn hear(
+    rt: &impl Print,
+    shift: Shift,
+    cab: usize,
+    command: usize,
+    line: &[u8],
+    named: &[u64; 16],
+) -> Shift {
     let reading = reader::read_line(line);
     let media = reading.media;
     let read = reading.read;
@@ -117,7 +137,14 @@ fn hear(rt: &impl Print, shift: Shift, cab: usize, command: usize, line: &[u8], 
 }
 
 // Has a cab hear the line that a word stands for.
-fn hear_word(rt: &impl Print, shift: Shift, cab: usize, command: usize, word: &[u8], named: &[u64; 16]) -> Shift {
+fn hear_word(
+    rt: &impl Print,
+    shift: Shift,
+    cab: usize,
+    command: usize,
+    word: &[u8],
+    named: &[u64; 16],
+) -> Shift {
     let sent = shift.sent;
     let mut heard = [0u8; ROOM];
     let length = put_line(&mut heard, digits_of(&sent, word), unless_no(named, 2));

@@ -56,14 +56,16 @@ fn say_cut(rt: &impl Print, cut: bool) -> bool {
     if !cut {
         return true;
     }
-    rt.println("! the script has more than 65536 bytes: only the lines that end within them were played")
-        .is_ok()
+    rt.println(
+        "! the script has more than 65536 bytes: only the lines that end within them were played",
+    ).is_ok()
 }
 
 // Says the names of the fields; whether that could be written.
 fn say_fields(rt: &impl Print) -> bool {
-    rt.println("# command cab machine number row before after stopped started running counters call sent untouched")
-        .is_ok()
+    rt.println(
+        "# command cab machine number row before after stopped started running counters call sent untouched",
+    ).is_ok()
 }
 
 // Plays the script and tells how it ends; whether all of that could be written.
@@ -76,6 +78,11 @@ fn play(rt: &impl Print, script: &[u8], cut: bool) -> bool {
     shift.written && say_cut(rt, cut) && outcome::tell_outcome(rt, &cabs)
 }
 
+// Says a line on standard error; where that fails there is nobody to tell.
+fn say(rt: &impl Eprint, line: &str) {
+    let _ = rt.eprintln(line);
+}
+
 // Plays the script from standard input, which is cut behind 65,536 bytes, and says where the answer could not be
 // written; a failed read ends it ahead of that.
 fn play_input(rt: &HostRuntime) -> io::Result<()> {
@@ -86,11 +93,6 @@ fn play_input(rt: &HostRuntime) -> io::Result<()> {
         say(rt, "drill: the answer could not be written");
     }
     Ok(())
-}
-
-// Says a line on standard error; where that fails there is nobody to tell.
-fn say(rt: &impl Eprint, line: &str) {
-    let _ = rt.eprintln(line);
 }
 
 // Plays the script from standard input. Where it cannot be read to its end, or to where it is cut, nothing is played.

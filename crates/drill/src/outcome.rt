@@ -79,10 +79,13 @@ fn standing(
 // Tells how the calls stand to each other; whether that could be written.
 fn tell_standing(rt: &impl Print, machine: &[u8], standing: usize) -> bool {
     let standings = STANDINGS;
-    say(rt, put_text(
-        put_text(Line::empty(), machine),
-        nth_line(&standings, standing),
-    ))
+    say(
+        rt,
+        put_text(
+            put_text(Line::empty(), machine),
+            nth_line(&standings, standing),
+        ),
+    )
 }
 
 // Tells how a shift ends, where a cab is in a private call in P4 and in a group call in S3; whether that could be
@@ -90,6 +93,10 @@ fn tell_standing(rt: &impl Print, machine: &[u8], standing: usize) -> bool {
 pub(crate) fn tell_outcome(rt: &impl Print, cabs: &[u64; BOTH]) -> bool {
     let mut told = tell_cab(rt, cabs, 0);
     told = tell_cab(rt, cabs, 1) & told;
-    told = tell_standing(rt, b"Private call: ", standing(cabs, PRIVATE, 4, 10, 10, 16)) & told;
+    told = tell_standing(
+        rt,
+        b"Private call: ",
+        standing(cabs, PRIVATE, 4, 10, 10, 16),
+    ) & told;
     tell_standing(rt, b"Group call: ", standing(cabs, GROUP, 1, 5, 4, 13)) & told
 }

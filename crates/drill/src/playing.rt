@@ -91,7 +91,14 @@ fn play_named(
 }
 
 // Plays the command of a cab from the words behind the cab's name.
-fn play_command(rt: &impl Print, shift: Shift, cab: usize, command: usize, line: &[u8], at: usize) -> Shift {
+fn play_command(
+    rt: &impl Print,
+    shift: Shift,
+    cab: usize,
+    command: usize,
+    line: &[u8],
+    at: usize,
+) -> Shift {
     let sent = shift.sent;
     let read = command_in(line, at);
     if read.complaint != NOTHING {

@@ -1,5 +1,5 @@
-// Entries for C that play the steps which the bytes of a script name, one after the other, so that a host can measure
-// a step of either machine.
+// Entries that play the steps which the bytes of a script name, one after the other, so that a host can measure a step
+// of either machine. The crate pace_c exports them to C.
 #![tactic(auto)]
 
 mod happenings;
@@ -22,8 +22,7 @@ fn row_met(row: u8) -> usize
 
 // How many steps of a script meet a row of the private machine, from its cleared record on; each step writes its line
 // at the front of the same lent buffer.
-#[unsafe(no_mangle)]
-pub extern "C" fn pace_private_steps(script: &[u8], out: &mut [u8]) -> usize
+pub fn pace_private_steps(script: &[u8], out: &mut [u8]) -> usize
     ensures value { result ≡ rows_met private_play out.old script.now }
     ensures out_after { out.new ≡ buffer_after private_play out.old script.now }
 {
@@ -40,8 +39,7 @@ pub extern "C" fn pace_private_steps(script: &[u8], out: &mut [u8]) -> usize
 }
 
 // The same of the group machine.
-#[unsafe(no_mangle)]
-pub extern "C" fn pace_group_steps(script: &[u8], out: &mut [u8]) -> usize
+pub fn pace_group_steps(script: &[u8], out: &mut [u8]) -> usize
     ensures value { result ≡ rows_met group_play out.old script.now }
     ensures out_after { out.new ≡ buffer_after group_play out.old script.now }
 {

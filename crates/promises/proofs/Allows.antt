@@ -29,15 +29,19 @@ use Rattle.chooser.proofs.choose_number.Reads as choose-number
 use Rattle.chooser.proofs.choice.Reads as choice
 use Rattle.group_call.specs.Step as GroupStep
 use Rattle.group_call.proofs.step.Reads as group-step
-use Rattle.promises.specs.OfContracts.{Promises, Lent, ToWrite, ToStep, buffer_of_step, MayRead, StepBuild, Obeys}
+use Rattle.promises.specs.OfContracts.{Promises, Lent, Buffer, ToWrite, ToStep, buffer_of_step, MayRead, StepBuild, Obeys}
 
 -- bytes that are lent, somewhere
 abbrev lent_at : List ℕ → Lent
 lent_at bytes = record { ref_ptr = (0, 0); now = bytes }
 
--- what is lent, with other bytes in its place
-abbrev holding : Lent → List ℕ → Lent
-holding lent bytes = record { ref_ptr = lent.ptr; ghost_name = lent.name; now = bytes }
+-- a buffer with these bytes, somewhere
+abbrev buffer_at : List ℕ → Buffer
+buffer_at bytes = record { ref_ptr = (0, 0); ghost_name = 0; now = bytes }
+
+-- a buffer, with other bytes in it
+abbrev holding : Buffer → List ℕ → Buffer
+holding lent bytes = record { ref_ptr = lent.ref_ptr; ghost_name = lent.ghost_name; now = bytes }
 
 -- what a writer was handed, with other bytes in the buffer
 abbrev written_in : {What : Type 0} → ToWrite What → List ℕ → ToWrite What
@@ -86,7 +90,7 @@ choice-allows κ a = (choice_of a.0.now a.1.0.now, a, refl)
 
 -- `choose` allows a line to be handed back
 pub choose-allows : (κ : Lfts 1) (a : _) → (r : _) × (t : _) × choose.Learnt κ a r t
-choose-allows κ a = let (ptr, bytes) = place_of (choice_of a.0.now a.1.0.now) a.0 a.1.0 in (record { ref_ptr = ptr; ghost_name = a.0.name; now = bytes }, a, refl)
+choose-allows κ a = let (ptr, bytes) = place_of (choice_of a.0.now a.1.0.now) a.0 a.1.0 in (record { ref_ptr = ptr; now = bytes }, a, refl)
 
 -- the step of the private call machine allows an answer, and a buffer
 pub step-allows : (κ : Lfts 1) (a : _) → (r : _) × (t : _) × step.Learnt κ a r t
@@ -102,10 +106,10 @@ group-step-allows κ a =
 -- a contract of a step that promises something allows some build
 pub some-build : {Stored R : Type 0} {Asked : ToStep Stored → Type 0} {Learnt Promised : ToStep Stored → R → ToStep Stored → Type 0} → Promises Asked Learnt Promised
     → (b : StepBuild Stored R) × Obeys Learnt b
-some-build {Stored} {R} {Asked} {Learnt} p = (λ s q i out. ((of s q i out).0, buffer_of_step (of s q i out).1), λ s q i out. (lent_at out, (of s q i out).1, refl, (of s q i out).2, refl))
+some-build {Stored} {R} {Asked} {Learnt} p = (λ s q i out. ((of s q i out).0, buffer_of_step (of s q i out).1), λ s q i out. (buffer_at out, (of s q i out).1, refl, (of s q i out).2, refl))
   where
-    of : (s : Settings) (q : Stored) (i : Input) (out : List ℕ) → (r : R) × (t : ToStep Stored) × Learnt (s, (q, (i, (lent_at out, tt)))) r t
-    of s q i out = p.allows_some (s, (q, (i, (lent_at out, tt))))
+    of : (s : Settings) (q : Stored) (i : Input) (out : List ℕ) → (r : R) × (t : ToStep Stored) × Learnt (s, (q, (i, (buffer_at out, tt)))) r t
+    of s q i out = p.allows_some (s, (q, (i, (buffer_at out, tt))))
 
 -- the contract of `read_line` allows some reader
 pub some-reader : (κ : Lfts 1) → (reads : List ℕ → Reading) × ((line : List ℕ) → MayRead κ line (reads line))

@@ -66,7 +66,7 @@ choice-known first second = go (eqb (choice_number first.now second.now) 0) refl
 -- what is handed back is what the choice says
 choice-names : (κ : Lfts 1) (first second line : Lent) (chosen : ℕ) → chosen ≡ choice_of first.now second.now → MayHandBack κ first second line → NamesLine first second chosen line
 choice-names κ first second line chosen x (t, y) =
-    let handed : (n : ℕ) → chosen ≡ n → (line.ptr, line.now) ≡ place_of n first second = λ n e. y ∙ ap (λ (k : ℕ). place_of k first second) (sym x ∙ e) in
+    let handed : (n : ℕ) → chosen ≡ n → (line.ref_ptr, line.now) ≡ place_of n first second = λ n e. y ∙ ap (λ (k : ℕ). place_of k first second) (sym x ∙ e) in
     record { known = rw x (choice-known first second); one = handed 1; two = handed 2; none = handed 0 }
 
 -- its numbers and that nothing else happens, contract by contract

@@ -1,5 +1,5 @@
 -- The three demands over the contracts, to be read next, after Demands.antt of `demands`: whatever the contracts of the public functions allow is as the
--- demands say. Every κ stands for the lifetimes of what is lent, which change nothing; the words of the statements stand in Contracts.antt and in
+-- demands say. Every κ stands for the lifetimes of what is lent, which change nothing; the words of the statements stand in OfContracts.antt and in
 -- `demands`. Assumes nothing.
 use Rattle.std.specs.Prelude.{◌≡◌, ◌⊎◌, ◌↔◌, List, [], ◌∷◌, ℕ, ◌≤◌, length, take}
 use contract.Lifetimes.{Lfts}
@@ -50,7 +50,7 @@ pub record NamesLine (first second : Lent) (chosen : ℕ) (line : Lent) : Type 0
   -- 2: the second line itself
   pub two : chosen ≡ 2 → place line ≡ place second
   -- 0: no bytes, where the first line begins
-  pub none : chosen ≡ 0 → place line ≡ (first.ptr, [])
+  pub none : chosen ≡ 0 → place line ≡ (first.ref_ptr, [])
 
 -- an answer of a step, and the buffer after it: each number exactly when, and nothing else then
 abbrev pub Numbered : (M : Machine) → Settings → M.Stored → Input → List ℕ → Answer M.Stored M.Timers → List ℕ → Type 0
@@ -77,7 +77,7 @@ pub record Demand1Kept : Type 0 where
       (OfTwoLines (λ first second number. GivenExactlyWhen number (choice_table first.now second.now)))
   -- where the question has a number, no bytes are handed back, where the first line begins
   pub by_choose : (κ : Lfts 1) (κn : Lfts 2) → Promises (choose.Asked κ) (choose.Learnt κ)
-      (OfTwoLines (λ first second line. (number : ℕ) → MayNumber κn first second number → (number ≡ 0 → ⊥) → place line ≡ (first.ptr, [])))
+      (OfTwoLines (λ first second line. (number : ℕ) → MayNumber κn first second number → (number ≡ 0 → ⊥) → place line ≡ (first.ref_ptr, [])))
   -- the choice is 0 exactly where the question has a number
   pub by_choice : (κ κn : Lfts 2) → Promises (choice.Asked κ) (choice.Learnt κ)
       (OfTwoLines (λ first second chosen. (number : ℕ) → MayNumber κn first second number → (chosen ≡ 0) ↔ (number ≡ 0 → ⊥)))

@@ -1,6 +1,6 @@
 -- What a contract promises, in the names of what is handed over, and what it allows. Assumes nothing.
 use Rattle.std.specs.Prelude.{◌≡◌, List, ℕ}
-use Rattle.std.specs.Borrow.{Bor}
+use Rattle.std.specs.Borrow.{Bor, MutBor}
 use contract.Lifetimes.{Lfts}
 use Rattle.frame.specs.declared.Media.{Media}
 use Rattle.reader.specs.declared.Reading.{Reading}
@@ -22,9 +22,13 @@ pub record Promises {A R T : Type 0} (Asked : A → Type 0) (Learnt Promised : A
   -- and every result and exit that are allowed are so
   pub and_so : (a : A) (r : R) (t : T) → Learnt a r t → Promised a r t
 
--- bytes that are lent
+-- bytes that are lent to be read
 abbrev pub Lent : Type 0
 Lent = Bor (List ℕ)
+
+-- a buffer: bytes that are lent to be written
+abbrev pub Buffer : Type 0
+Buffer = MutBor (List ℕ)
 
 -- said of a line that is lent to be read, and of the result
 abbrev pub OfLine : {R T : Type 0} → (List ℕ → R → Type 0) → Lent × Unit {0} → R → T → Type 0
@@ -38,7 +42,7 @@ OfTwoLines P a r t =
 
 -- what a writer is handed: what to write, the media beside it, and a lent buffer
 abbrev pub ToWrite : Type 0 → Type 0
-ToWrite What = What × (Media × (Lent × Unit {0}))
+ToWrite What = What × (Media × (Buffer × Unit {0}))
 
 -- said of what is to be written and its media, of the bytes lent, of the result, and of the bytes afterwards
 abbrev pub OfWriting : {What R : Type 0} → (What → Media → List ℕ → R → List ℕ → Type 0) → ToWrite What → R → ToWrite What → Type 0
@@ -49,7 +53,7 @@ OfWriting P a r t =
     let after = t.1.1.0.now in P what media lent r after
 
 -- said of a log, of the bytes lent, of the result, and of the bytes afterwards
-abbrev pub OfLog : {R : Type 0} → (List ℕ → List ℕ → R → List ℕ → Type 0) → Lent × (Lent × Unit {0}) → R → Lent × (Lent × Unit {0}) → Type 0
+abbrev pub OfLog : {R : Type 0} → (List ℕ → List ℕ → R → List ℕ → Type 0) → Lent × (Buffer × Unit {0}) → R → Lent × (Buffer × Unit {0}) → Type 0
 OfLog P a r t =
     let log = a.0.now in
     let lent = a.1.0.now in
@@ -57,7 +61,7 @@ OfLog P a r t =
 
 -- what a step is handed: settings, a record, an input, and a lent buffer
 abbrev pub ToStep : Type 0 → Type 0
-ToStep Stored = Settings × (Stored × (Input × (Lent × Unit {0})))
+ToStep Stored = Settings × (Stored × (Input × (Buffer × Unit {0})))
 
 -- the bytes of that buffer
 abbrev pub buffer_of_step : {Stored : Type 0} → ToStep Stored → List ℕ
@@ -87,7 +91,7 @@ MayHandBack κ first second line = (exit : _) × choose.Learnt κ (first, (secon
 -- the contract of a step allows this answer, and these bytes afterwards, for these settings, this record, this input and these bytes lent
 abbrev pub MayStep : {Stored R : Type 0} → (ToStep Stored → R → ToStep Stored → Type 0) → Settings → Stored → Input → List ℕ → R → List ℕ → Type 0
 MayStep {Stored} Learnt s p i bytes answer after =
-    (lent : Lent) × (exit : ToStep Stored) × (lent.now ≡ bytes) × Learnt (s, (p, (i, (lent, tt)))) answer exit × (buffer_of_step exit ≡ after)
+    (lent : Buffer) × (exit : ToStep Stored) × (lent.now ≡ bytes) × Learnt (s, (p, (i, (lent, tt)))) answer exit × (buffer_of_step exit ≡ after)
 
 -- ---- builds of a step
 

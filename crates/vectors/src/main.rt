@@ -102,7 +102,11 @@ fn starts_group_call() -> Input {
 
 // The private call: user 7 starts it, hears the accept of user 9, and ends it.
 fn play_private_call(rt: &HostRuntime) {
-    let called = private_step(rt, private_record::states::PrivateRecord::cleared(), starts());
+    let called = private_step(
+        rt,
+        private_record::states::PrivateRecord::cleared(),
+        starts(),
+    );
     let reading = reader::read_line(&ACCEPT);
     let media = reading.media;
     let read = reading.read;

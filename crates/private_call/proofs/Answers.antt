@@ -2,7 +2,9 @@
 use Prim.Native.Nat.{ℕ}
 use mathlib.Core.Path.{◌≡◌, sym, ap, ◌∙◌}
 use mathlib.Core.List.{List}
-use mathlib.Core.Bool.{Bool, true, false}
+use mathlib.Core.Bool.{Bool, true, false, cond}
+use lib.Dec.{eqb}
+use Rattle.writer.specs.Lent.{lent_after}
 use Rattle.call.specs.declared.Settings.{Settings}
 use Rattle.call.specs.declared.Input.{Input}
 use Rattle.stepping.specs.Numbers.{number_before_row}
@@ -11,9 +13,9 @@ use Rattle.stepping.proofs.Answers as answers
 use Rattle.private_record.specs.Formed.{is_well_formed}
 use Rattle.private_record.specs.declared.states.PrivateRecord.{PrivateRecord}
 use Rattle.private_rows.specs.Rows.{row_number, row_of}
-use Rattle.private_call.specs.Step.{identifier_taken, done_of, refused_of, moved_of, answer_met, step_of, step_buffer}
+use Rattle.private_call.specs.Step.{identifier_taken, done_of, step_line, refused_of, moved_of, answer_met, step_of, step_buffer}
 use Rattle.private_call.specs.declared.Stepped.{Stepped}
-use Rattle.private_call.proofs.Steps.{buffer_lent, answer-of-row}
+use Rattle.private_call.proofs.Steps.{number-in-parts, buffer_lent, answer-of-row}
 
 module _ (s : Settings) (p : PrivateRecord) (i : Input) (out : List ℕ) where
   -- the number before a row is looked for
@@ -39,7 +41,11 @@ module _ (s : Settings) (p : PrivateRecord) (i : Input) (out : List ℕ) where
   -- what the number, the row's answer and its line give is the step's
   as_step : {r : Stepped} {after : List ℕ} → answers.Answers s (is_well_formed s p) i taken (done_of s p i).sent (done_of s p i).next.call.media out (λ n. refused_of n p) (answer_met s p i) r after → Answers r after
   unfolding step_of
-  as_step x = (x.0, x.1 ∙ sym (buffer_lent s p i out))
+  as_step x =
+      let n = sym (number-in-parts s p i out) in (
+        x.0 ∙ ap (λ (n : ℕ). cond (eqb n 0) (answer_met s p i) (refused_of n p)) n,
+        x.1 ∙ ap (λ (n : ℕ). lent_after n (step_line s p i) out) n ∙ sym (buffer_lent s p i out),
+      )
 
   -- refused before a row is looked for
   pub refused-first : (before ≡ 0 → ⊥) → Answers (refused_of before p) out

@@ -39,7 +39,7 @@ use Rattle.private_call.specs.Step.{number_before_sending, done_of, step_line, r
 use Rattle.private_call.specs.Running.{expiry, user_accepts}
 use Rattle.private_call.specs.NoReply.{Counter, cfp1, cfp3, cfp4, timer_of, phase_where}
 use Rattle.private_call.specs.declared.Stepped.{Stepped}
-use Rattle.private_call.proofs.Steps.{buffer_lent, tests-passed, step-passed, step-done, answer-told, keeps-well-formed, discards}
+use Rattle.private_call.proofs.Steps.{buffer_lent, tests-passed, number-in-parts, step-passed, step-done, answer-told, keeps-well-formed, discards}
 
 -- ---- a step by its row
 
@@ -49,7 +49,7 @@ pub carries : (s : Settings) (p : PrivateRecord) (i : Input) (out : List ℕ) (r
     → step_of s p i out ≡ moved_of row (carry_out s p i row) (length (line_sent (carry_out s p i row).sent (carry_out s p i row).next.call.media))
 carries s p i out row e r w =
     let done = carry_out s p i in
-    step-done s p i out ((λ j. number_sending (e j) (done (r j)).sent (done (r j)).next.call.media out) ∙ w)
+    step-done s p i out (number-in-parts s p i out ∙ (λ j. number_sending (e j) (done (r j)).sent (done (r j)).next.call.media out) ∙ w)
     ∙ (λ j. moved_of (r j) (done (r j)) (length (line_sent (done (r j)).sent (done (r j)).next.call.media)))
 
 -- the next record of a step that is not refused

@@ -23,7 +23,7 @@ use Rattle.private_rows.specs.declared.Row.{Row}
 use Rattle.private_rows.specs.declared.Row.TheVariants.{Discard}
 use Rattle.private_rows.proofs.Meets.{same_row}
 use Rattle.private_call.specs.Carried.{carry_out}
-use Rattle.private_call.specs.Step.{identifier_taken, number_before_sending, done_of, line_with, step_line, step_number, refused_of, moved_of, discarded, answer_met, buffer_with, step_of, step_buffer}
+use Rattle.private_call.specs.Step.{identifier_taken, tests_with, number_with, number_before_sending, done_of, line_with, step_line, step_number, refused_of, moved_of, discarded, answer_met, buffer_with, step_of, step_buffer}
 use Rattle.private_call.specs.declared.carrying.Carried.{Carried}
 use Rattle.private_call.specs.declared.Stepped.{Stepped}
 use Rattle.private_call.proofs.Keeping.{carried-well-formed, carried-sends-good}
@@ -33,6 +33,11 @@ use Rattle.private_call.proofs.Discarding.{carried-nothing}
 discard-sends : (s : Settings) (p : PrivateRecord) (i : Input) → line_with Discard s p i ≡ []
 unfolding carry_out
 discard-sends s p i = refl
+
+-- the number of a step that meets a row: that of a test, else the writer's of what the row sends
+number-of-row : (row : Row) (s : Settings) (p : PrivateRecord) (i : Input) (out : List ℕ)
+    → number_with row s p i out ≡ number_sending (tests_with row s p i) (carry_out s p i row).sent (carry_out s p i row).next.call.media out
+number-of-row row s p i out = refl
 
 module _ (s : Settings) (p : PrivateRecord) (i : Input) where
   -- the answer of a step that is carried out
@@ -72,10 +77,15 @@ module _ (s : Settings) (p : PrivateRecord) (i : Input) where
   pub tests-passed : number_before_sending s p i ≡ 0 → Taken s (is_well_formed s p) i × (identifier_taken s p i.event (row_of s p i) ≡ false)
   tests-passed = stepping.tests-passed s (is_well_formed s p) i (identifier_taken s p i.event (row_of s p i))
 
+  -- the number of a step by the row that is met
+  pub number-in-parts : (out : List ℕ) → step_number s p i out ≡ number_sending (number_before_sending s p i) (done_of s p i).sent (done_of s p i).next.call.media out
+  number-in-parts = number-of-row (row_of s p i) s p i
+
   -- a number 0 of a step passed the tests, and then the writer's is 0
   pub step-passed : (out : List ℕ) → step_number s p i out ≡ 0
       → (number_before_sending s p i ≡ 0) × (send_number (done_of s p i).sent (done_of s p i).next.call.media out ≡ 0)
-  step-passed = number_passed (number_before_sending s p i) (done_of s p i).sent (done_of s p i).next.call.media
+  step-passed out e =
+      number_passed (number_before_sending s p i) (done_of s p i).sent (done_of s p i).next.call.media out (sym (number-in-parts out) ∙ e)
 
   -- the answer of a step that is refused, and its buffer
   pub step-refused : (out : List ℕ) → (step_number s p i out ≡ 0 → ⊥) → (step_of s p i out ≡ refused_of (step_number s p i out) p) × (step_buffer s p i out ≡ out)
@@ -132,7 +142,10 @@ step_from p out n row d =
 pub discards : (s : Settings) (p : PrivateRecord) (i : Input) (out : List ℕ) → number_before_sending s p i ≡ 0 → row_of s p i ≡ Discard
     → (step_of s p i out ≡ discarded p) × (step_buffer s p i out ≡ out)
 unfolding step_of step_buffer carry_out
-discards s p i out e r = (λ j. step_from p out (e j) (r j) (carry_out s p i (r j)), ap (λ (row : Row). buffer_with row s p i out) r)
+discards s p i out e r = (
+  ap (λ (n : ℕ). cond (eqb n 0) (answer_met s p i) (refused_of n p)) (number-in-parts s p i out) ∙ (λ j. step_from p out (e j) (r j) (carry_out s p i (r j))),
+  ap (λ (row : Row). buffer_with row s p i out) r,
+)
 
 -- so once the tests before the rows are passed, an event that meets no row is answered at once
 pub answered-at-once : (s : Settings) (p : PrivateRecord) (i : Input) (out : List ℕ) → number_before_row s (is_well_formed s p) i ≡ 0 → row_number (row_of s p i) ≡ 0

@@ -34,7 +34,7 @@ public_functions() {
 }
 
 # CRATE/LABEL for each must-fail edit.
-edits() { find crates -path '*/must-fail/*.edit' | sed 's|^crates/\([^/]*\)/must-fail/\(.*\)\.edit$|\1/\2|' | sort; }
+edits() { find crates/*/must-fail -name '*.edit' | sed 's|^crates/\([^/]*\)/must-fail/\(.*\)\.edit$|\1/\2|' | sort; }
 
 # Where the theorems of one answer stand.
 one_answer=$(echo crates/promises/proofs/OneAnswer*.antt)
@@ -152,12 +152,12 @@ cited() {
 # Prints those of them that are not among the names of a list, one a line.
 unknown() { awk -F : 'NR == FNR { known[$0]; next } !($2 in known)' "$1" - | paste -s -d ' '; }
 
-wrong=$(cited | unknown <(grep -rhoaE '[A-Za-z][A-Za-z0-9_-]*' crates .ci host/*.sh host/include && find crates host crates.txt -printf '%f\n'))
+wrong=$(cited | unknown <(grep -rhoaE --exclude-dir=out '[A-Za-z][A-Za-z0-9_-]*' crates .ci host/*.sh host/include && find crates host crates.txt -name out -prune -o -printf '%f\n'))
 verdict "every name that README.md and docs/ cite stands in a crate, in a script or in a header" "$wrong"
 
 # The names of docs/DRILL.md are words of its scripts.
 wrong=$(cited | grep -v '^docs/DRILL.md:' | grep -E ':[a-z0-9]+(-[A-Za-z0-9]+)+$' |
-    unknown <(grep -rhoE --include='*.antt' '^ *(abbrev |unfoldable )?(pub )?[a-z0-9]+(-[A-Za-z0-9]+)+ :' crates | sed -E 's/ :$//; s/.* //'))
+    unknown <(grep -rhoE --exclude-dir=out --include='*.antt' '^ *(abbrev |unfoldable )?(pub )?[a-z0-9]+(-[A-Za-z0-9]+)+ :' crates | sed -E 's/ :$//; s/.* //'))
 verdict "every theorem that README.md and docs/ cite is stated" "$wrong"
 
 wrong=''
@@ -231,7 +231,7 @@ verdict "every clause that docs/SLIPS.md shows stands in a file linked, and ever
 
 # ---- the sources
 
-wrong=$(find crates host -type f | grep -E '\.(rt|antt|c|h|rs|sh)$' | xargs wc -l | awk '$2 != "total" && $1 >= 300 { print $2 }')
+wrong=$(find crates host -name out -prune -o -type f -print | grep -E '\.(rt|antt|c|h|rs|sh)$' | xargs wc -l | awk '$2 != "total" && $1 >= 300 { print $2 }')
 verdict "no source file has 300 lines" "$wrong"
 
 # rt fmt writes: so it lays out a copy.

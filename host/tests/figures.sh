@@ -35,16 +35,16 @@ wrong=''
 says docs/DECISIONS.md "$(entries plays)" '`plays` holds % steps'
 says docs/DECISIONS.md "$(entries strays)" '`strays` has % steps'
 says docs/DECISIONS.md "$(entries refusals)" '`refusals` % that are refused'
-says docs/DECISIONS.md "$(entries groupPlays)" '`groupPlays` holds % steps'
-says docs/DECISIONS.md "$(entries groupStrays)" '`groupStrays` % that meet no row'
-says docs/DECISIONS.md "$(entries groupRefusals)" '`groupRefusals` % that are refused'
-says docs/ROWS.md "$(entries groupPlays)" '[`groupPlays`](../crates/demands/specs/GroupPlays.antt) has % steps'
-says docs/ROWS.md "$(grep -c '^rowNumber G' crates/group_rows/specs/Rows.antt)" 'steps over all @ rows'
-says docs/DECISIONS.md "$(grep -c '^stateOf Phase' crates/private_record/specs/Phases.antt)" 'The table of states has @ lines'
+says docs/DECISIONS.md "$(entries group_plays)" '`group_plays` holds % steps'
+says docs/DECISIONS.md "$(entries group_strays)" '`group_strays` % that meet no row'
+says docs/DECISIONS.md "$(entries group_refusals)" '`group_refusals` % that are refused'
+says docs/ROWS.md "$(entries group_plays)" '[`group_plays`](../crates/demands/specs/GroupPlays.antt) has % steps'
+says docs/ROWS.md "$(grep -c '^row_number G' crates/group_rows/specs/Rows.antt)" 'steps over all @ rows'
+says docs/DECISIONS.md "$(grep -c '^state_of Phase' crates/private_record/specs/Phases.antt)" 'The table of states has @ lines'
 says docs/DECISIONS.md "$(fields TimerFacts crates/call/src/timers.rt)" '@ facts of a timer (`TimerFacts`)'
 says docs/DECISIONS.md "$(fields CounterFacts crates/private_call/src/carrying.rt)" 'at @ of a counter (`CounterFacts`)'
 says docs/PROMISES.md "$(fields TimerFacts crates/call/src/timers.rt)" 'by the @ facts that the rules for all rows'
-kinds=$(grep -c '^kindOf (' crates/frame/specs/Frame.antt)
+kinds=$(grep -c '^kind_of (' crates/frame/specs/Frame.antt)
 says README.md "$kinds" 'it is none of the @, 01 to 0%'
 says docs/DECISIONS.md "$kinds" 'that there are @ kinds'
 says docs/ROWS.md "$kinds" 'a message that is one of @ kinds'
@@ -53,14 +53,14 @@ held=$(($(fields GroupCall crates/frame/src/lib.rt) + 1))
 for page in docs/DECISIONS.md docs/DEMANDS.md docs/ROWS.md docs/DRILL.md docs/SLIPS.md; do
     says $page "$held" 'all @ fields'
 done
-most=$(sed -n 's/^limitGood limit = within 1 limit \([0-9]*\)$/\1/p' crates/call/specs/Settings.antt)
+most=$(sed -n 's/^limit_good limit = within 1 limit \([0-9]*\)$/\1/p' crates/call/specs/Settings.antt)
 says docs/DRILL.md "$most" 'a limit is from 1 to %;'
 says docs/ROWS.md "$most" 'every limit lies between 1 and %;'
 statements=$(grep -c '^pub record Demand[0-9] ' crates/demands/specs/Demands.antt)
 says docs/DECISIONS.md "$statements" 'has the @ demands as @ statements'
 says docs/DEMANDS.md "$statements" 'as @ statements'
 says docs/DECISIONS.md $(($(sed -n 's/^ *pub const LONGEST: usize = \([0-9]*\);$/\1/p' crates/frame/src/lib.rt) - 1)) 'nobody writes % digits by hand'
-says docs/READING.md "$(find crates -name Found.antt | wc -l)" 'but for the @ files `Found.antt`'
+says docs/READING.md "$(find crates/*/{specs,proofs} -name Found.antt | wc -l)" 'but for the @ files `Found.antt`'
 says docs/DECISIONS.md $((($(grep -l '^file: specs/' crates/{demands,promises}/must-fail/*.edit | wc -l) + 6) / 12)) '@ dozen that change a statement'
 verdict "the figures of README.md and docs/ are those of the definitions" "$wrong"
 

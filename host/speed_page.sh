@@ -59,15 +59,19 @@ a cost that was typed:sum:/ 16384 bytes / { on = 1 } on && /^\| Rattle / { $6 = 
 CHANGES
 }
 
-# A case each: instructions are written into a page, and a page has those of this state where it names the machine and the compilers at hand.
+# A case each: instructions are written into a page, and a page has those of this state where it names the machine, the compilers and the kit at
+# hand.
 counts_held() {
-    local wrong copy=$room/copy.md
+    local wrong copy=$room/copy.md kit
+    kit=$(grep -oE 'rattle-kit-[0-9a-z]+' "$page" | head -n 1)
     cp "$page" "$copy"
     run "${before[@]}" --instructions --page "$copy"
     wrong=$(wrongs 0; cat "$room/wrote"; diff <(echo; cat "$room/instructions"; echo) <(part instructions "$copy") | head -n 3)
     cmp -s <(part times "$page") <(part times "$copy") || wrong="$wrong other times"
     verdict "--page writes what is counted into the page and nothing else, and each time the same is counted" "$wrong"
-    if diff <(grep -e '^Co' "$room/instructions") <(part instructions "$page" | grep -e '^Co') >/dev/null; then
+    if [ "${kit:-none}" != "$(rt version | cut -d ' ' -f 1)" ]; then
+        left_out "the instructions of $page against those of this state" "they were counted with another kit, ${kit:-which it does not name}"
+    elif diff <(grep -e '^Co' "$room/instructions") <(part instructions "$page" | grep -e '^Co') >/dev/null; then
         verdict "the instructions of $page are those of this state" "$(page_wrong "$copy"; diff <(own_counts "$copy") <(own_counts "$page") | head -n 4)"
     else
         left_out "the instructions of $page against those of this state" "they were counted on another kind of machine, or with other compilers"

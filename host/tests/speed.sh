@@ -23,13 +23,9 @@ wrongs() {
     [ ! -s "$room/said" ] || printf ' said: %s' "$(head -n 1 "$room/said")"
 }
 
-# Prints the archives that rt has made, each with its sum.
-made() { cksum target/staticlib/* 2>/dev/null; }
-
 # ---- the program
 
 # Built ahead of the case, so that it does not see it being built for the first time.
-made >"$room/before"
 [ -e target/archives/libpace.a ] || bash host/speed.sh --seed 1 --help </dev/null >/dev/null 2>&1
 
 run --seed 1 --help
@@ -38,11 +34,7 @@ verdict "host/speed.sh builds all it needs, and its program says how to call it,
 # Without a program of this state there is nothing to try.
 [ $status -eq 0 ] || exit $status
 
-if [ "$(uname -m)" != x86_64 ]; then
-    made >"$room/after"
-    verdict "archives made for $(uname -m) stay out of target/staticlib" "$(diff "$room/before" "$room/after" | head -n 1)"
-    other="^Rattle is here the same module .*, compiled for $(uname -m)\.\$"
-fi
+[ "$(uname -m)" = x86_64 ] || other="^Rattle is here the same module .*, compiled for $(uname -m)\.\$"
 
 # As host/speed.sh builds the program, so that neither undoes what the other has built.
 unset STATICLIB
@@ -157,7 +149,7 @@ verdict "an earlier state that answers otherwise is named, with the line" \
 # ---- the C
 
 # Whether the archive has just what each compiler makes of the C at -O3, without a warning, with the names of one apart.
-kit=${RATTLE_HOME:-$(dirname "$(dirname "$(readlink -f "$(command -v rt)")")")}
+kit=$(dirname "$(dirname "$(readlink -f "$(command -v rt)")")")
 flags=(-std=c99 -O3 -Wall -Wextra -Wconversion -pedantic -Werror -c)
 mapfile -t apart < <(printf -- '-D%s=clang_%s\n' {plain,table,best}_{line_check,choose,answer_log}{,})
 wrong=$(ar t target/archives/libbaseline.a | sort | paste -s -d ' ' | grep -vx 'best.o clang_best.o clang_plain.o clang_table.o plain.o table.o')
@@ -165,7 +157,7 @@ for source in plain table best; do
     # shellcheck disable=SC2086
     ${CC:-cc} "${flags[@]}" host/speed/$source.c -o "$room/$source.o" 2>"$room/said" || wrong="$wrong $(grep -m 1 error "$room/said")"
     # shellcheck disable=SC2086
-    "$kit/on/$(uname -m)/toolchain/bin/clang" --no-default-config --target="$(uname -m)-unknown-linux-gnu" "${flags[@]}" "${apart[@]}" \
+    "$kit/toolchain/bin/clang" --no-default-config --target="$(uname -m)-unknown-linux-gnu" "${flags[@]}" "${apart[@]}" \
         -isystem "$(${CC:-cc} -print-file-name=include)" host/speed/$source.c -o "$room/clang_$source.o" 2>"$room/said" ||
         wrong="$wrong $(grep -m 1 error "$room/said")"
     for object in "$source.o" "clang_$source.o"; do
@@ -228,14 +220,15 @@ ln -s "$(command -v rt)" "$room/few/"
 path=$room/few refuses "cargo is missed" 'cargo, the command of the Rust toolchain, is not on the PATH'
 ln -s "$(command -v cargo)" "$(command -v cc)" "$(command -v ar)" "$(command -v nm)" "$room/few/"
 CC=cc path=$room/few refuses "objcopy is missed" 'objcopy, which changes the names in objects, is not on the PATH'
-RATTLE_HOME=$room/few refuses "the kit's compiler is missed" "the kit has no clang for $(uname -m)"
+mkdir -p "$room/kit/bin" && : >"$room/kit/bin/rt" && chmod +x "$room/kit/bin/rt"
+path=$room/kit/bin:$PATH refuses "the kit's compiler is missed" "the kit has no clang for $(uname -m)"
 PATH=$room/few target/independent/speed/speed --instructions >"$room/wrote" 2>"$room/said"
 judge_refusal "valgrind is missed" $? 'speed: valgrind, which counts instructions, cannot be run: No such file or directory (os error 2)'
 
 bash host/archive.sh panel >"$room/wrote" 2>"$room/said"
 judge_refusal "an archive needs a folder" $? 'archive: usage: host/archive.sh NAME FOLDER [TARGET]'
 bash host/archive.sh lines "$room/few" >"$room/wrote" 2>"$room/said"
-judge_refusal "an archive of a program is refused" $? 'archive: no library lines in crates/'
+judge_refusal "an archive of a program is refused" $? 'archive: no library lines_c in crates/'
 
 # ---- C that does more, or answers otherwise
 

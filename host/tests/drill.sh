@@ -23,13 +23,6 @@ kill $busy
 printf '%s\n' "${drill[@]}" >"$room/wanted"
 judge "a program that nothing has changed for does not wait for rt" $ended
 
-cp target/bin/drill.state "$room/wanted"
-sed -i 's/ .*/ another/' target/bin/drill.state
-bash host/program.sh --command drill >/dev/null 2>"$room/said" </dev/null
-ended=$?
-cp target/bin/drill.state "$room/wrote"
-judge "a program of another state is looked at by rt again" $ended
-
 # Plays the script $room/given.
 play() { "${drill[@]}" <"$room/given" >"$room/wrote" 2>"$room/said"; }
 

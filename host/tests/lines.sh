@@ -27,6 +27,13 @@ cut='lines: only the first 65536 bytes are answered'
 # Built ahead of the cases, so that none of them sees it being built.
 answer </dev/null >/dev/null 2>&1
 
+cp target/bin/lines.state "$room/wanted"
+sed -i 's/ .*/ another/' target/bin/lines.state
+bash host/program.sh --command lines >/dev/null 2>"$room/said" </dev/null
+ended=$?
+cp target/bin/lines.state "$room/wrote"
+judge "a program of another state is looked at by rt again" $ended
+
 # ---- the ends of the input
 
 : >"$room/given"

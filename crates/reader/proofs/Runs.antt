@@ -78,6 +78,14 @@ fewer l i n h k t =
     let e : i + (n - i) ≡ n = omega arith in
     (and_split (all_digits (take i l)) (digits_from (n - i) l i) (sym (more l i (n - i) (omega arith)) ∙ ap (λ (m : ℕ). all_digits (take m l)) e ∙ t)).0
 
+-- where the first i bytes are not all digits, more are not either
+pub not-fewer : (l : List ℕ) (i n : ℕ) → all_digits (take i l) ≡ false → i ≤ n → n ≤ length l → all_digits (take n l) ≡ false
+not-fewer l i n e h k = go (all_digits (take n l)) refl
+  where
+    go : (b : Bool) → all_digits (take n l) ≡ b → all_digits (take n l) ≡ false
+    go true t = let p = fewer l i n h k t in cc p
+    go false t = t
+
 -- where a run among the first count bytes is not all digits, these are not either
 pub not-run : (l : List ℕ) (i n count : ℕ) → digits_from n l i ≡ false → i + n ≤ count → count ≤ length l → all_digits (take count l) ≡ false
 not-run l i n count e h k = go (all_digits (take count l)) refl
@@ -87,7 +95,3 @@ not-run l i n count e h k = go (all_digits (take count l)) refl
         let p = and_split (all_digits (take i l)) (digits_from n l i) (sym (more l i n (omega arith)) ∙ fewer l (i + n) count h k t) in
         cc p.1
     go false t = t
-
--- past digits up to place i, a run from there or from before decides
-pub last-run : (l : List ℕ) (at n i : ℕ) → at ≤ i → i ≤ length l → at + n ≤ length l → all_digits (take i l) ≡ true → digits_from n l at ≡ all_digits (take (at + n) l)
-last-run l at n i h k m t = sym (more l at n m ∙ ap (λ (b : Bool). b && digits_from n l at) (fewer l at i h k t))

@@ -6,7 +6,7 @@ ghost use Rattle.reader.specs.Table.{entry_of, Entries, digits_from};
 use crate::digits::is_digit;
 
 // What each byte stands for as a digit, and 16 more where it is none; sixteen bytes in a row, so `0` begins the fourth.
-pub(crate) const DIGITS: [u8; 256] = *b"\
+pub(crate) static DIGITS: [u8; 256] = *b"\
     \x10\x11\x12\x13\x14\x15\x16\x17\x18\x19\x1a\x1b\x1c\x1d\x1e\x1f\
     \x10\x11\x12\x13\x14\x15\x16\x17\x18\x19\x1a\x1b\x1c\x1d\x1e\x1f\
     \x10\x11\x12\x13\x14\x15\x16\x17\x18\x19\x1a\x1b\x1c\x1d\x1e\x1f\
@@ -50,23 +50,25 @@ fn eight_digits(table: &[u8; 256], line: &[u8], at: usize) -> bool
     joined < 16
 }
 
-// Whether each of the first count bytes is a digit, where they are eight or more: eight at a time, and then the last
-// eight, of which some may have been looked at before.
+// Whether each of the first count bytes is a digit, where they are eight or more: first the few ahead that fill no
+// eight, then eight at a time.
 #[tactic(auto, unfolding(frame::specs::Digits::all_digits))]
 fn many_digits(table: &[u8; 256], line: &[u8], count: usize) -> bool
     requires entries { Entries table.now }
     requires le_count { (8 ≤ count) × (count ≤ length line.now) }
     ensures { result ≡ all_digits (take count line.now) }
 {
-    let last = count - 8;
-    let mut i = 0;
-    while i < last {
+    let mut i = count % 8;
+    if !few_digits(line, i) {
+        return false;
+    }
+    while i < count {
         if !eight_digits(table, line, i) {
             return false;
         }
         i += 8;
     }
-    eight_digits(table, line, last)
+    true
 }
 
 // The same of any number of bytes: one at a time, and by comparing.

@@ -41,13 +41,12 @@ extern "C" {
 
 /* ---- the version of this header and its archive */
 
-/* The first number is another where a program may have to be changed, the second where there is more than before, where a line may get
- * another number, or where an entry may take more stack: from 1.1.0 on a PCK-ID other than 0 has 0001 in its top four bits, where it had
- * 0011; from 1.2.0 on PANEL_STACK is half as much again as before. */
+/* The first number is another where a program may have to be changed, the second where there is more than before, or where a line may get
+ * another number: from 1.1.0 on a PCK-ID other than 0 has 0001 in its top four bits, where it had 0011. */
 #define PANEL_VERSION_MAJOR UINT32_C(1)
-#define PANEL_VERSION_MINOR UINT32_C(2)
+#define PANEL_VERSION_MINOR UINT32_C(1)
 #define PANEL_VERSION_PATCH UINT32_C(0)
-/* All three as one number that grows: 10200 for 1.2.0. */
+/* All three as one number that grows: 10100 for 1.1.0. */
 #define PANEL_VERSION \
     ((PANEL_VERSION_MAJOR * UINT32_C(10000)) + (PANEL_VERSION_MINOR * UINT32_C(100)) + PANEL_VERSION_PATCH)
 
@@ -87,7 +86,7 @@ extern "C" {
 /* The length of the longest readable line, its line end included. */
 #define PANEL_LONGEST_LINE UINT64_C(63)
 /* More bytes of stack than any entry takes. */
-#define PANEL_STACK UINT32_C(768)
+#define PANEL_STACK UINT32_C(512)
 
 /* ---- the entries */
 

@@ -208,7 +208,7 @@ has_name() {
     elif [[ $2 == *.antt ]]; then
         grep -qE "^ *(abbrev |unfoldable )?pub ($1 :|(record|data) $1( |$))" "$2"
     elif [[ $2 == *.rt ]]; then
-        grep -qE "^ *(pub(\(crate\))? )?(extern \"C\" )?(fn|const|struct|enum) $1\b" "$2" ||
+        grep -qE "^ *(pub(\(crate\))? )?(extern \"C\" )?(fn|const|static|struct|enum) $1\b" "$2" ||
             { [[ $1 == [A-Z]* ]] && grep -qE "^    $1(\(.*\))?,$" "$2"; }
     else
         grep -qF "$1() {" "$2"

@@ -1,5 +1,5 @@
-// Entries for C that play the steps which the bytes of a script name, so that a host can measure a step of either machine.
-// Each is the function of its name in pace, with the same clauses.
+// Entries for C that play the steps which the bytes of a script name, so that a host can measure a step of either
+// machine. Each is the function of its name in pace, with the same clauses.
 #![tactic(auto)]
 
 ghost use Rattle.std.specs.Prelude.{◌≡◌};

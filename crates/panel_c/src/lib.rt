@@ -1,5 +1,5 @@
-// The entries for the panel shell in C: numbers and byte slices, and nothing else. Declared in host/include/panel.h. Each is
-// the function of its name in panel, with the same clauses.
+// The entries for the panel shell in C: numbers and byte slices, and nothing else. Declared in host/include/panel.h.
+// Each is the function of its name in panel, with the same clauses.
 #![tactic(auto)]
 
 ghost use Rattle.std.specs.Prelude.{◌≡◌};

@@ -1,5 +1,6 @@
 // Entries for the host's own trials of what the panel shell does not call: the values that a line is read as, the line
-// that values are written as, and the answer to a log. Each is the function of its name in trial, with the same clauses.
+// that values are written as, and the answer to a log. Each is the function of its name in trial, with the same
+// clauses.
 #![tactic(auto)]
 
 ghost use Rattle.std.specs.Prelude.{◌≡◌, get_or};

@@ -4,20 +4,20 @@ ghost use Rattle.std.specs.Prelude.{◌≡◌};
 ghost use Rattle.frame.specs.Media.{media_none, media_good};
 
 use crate::Media;
-use crate::range::four_good;
+use crate::range::Range;
 
 impl Media {
     // Whether there is none.
     pub fn is_none(self) -> bool
         ensures { result ≡ media_none self }
     {
-        self.number == 0
+        self == Media::NONE
     }
 
     // Whether it is in its range.
     pub(crate) fn is_good(self) -> bool
         ensures { result ≡ media_good self }
     {
-        four_good(self.number)
+        Range::FourBytes.has(self.number)
     }
 }

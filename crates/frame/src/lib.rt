@@ -2,10 +2,15 @@
 #![tactic(auto)]
 
 mod carried;
+mod kind;
 pub mod range;
+mod refusal;
+
+pub use crate::kind::Kind;
+pub use crate::refusal::Refusal;
 
 // What stands beside a message whose kind carries media: today a number.
-#[derive(Clone, Copy)]
+#[derive(Clone, Copy, PartialEq, Eq)]
 pub struct Media {
     pub number: u32,
 }
@@ -16,7 +21,7 @@ impl Media {
 }
 
 // A private call: its identifier and its two users.
-#[derive(Clone, Copy)]
+#[derive(Clone, Copy, PartialEq, Eq)]
 pub struct Parties {
     pub identifier: u16,
     pub caller: u32,
@@ -33,7 +38,7 @@ impl Parties {
 }
 
 // What a setup request says of the call besides.
-#[derive(Clone, Copy)]
+#[derive(Clone, Copy, PartialEq, Eq)]
 pub struct Setup {
     pub commencement: u8,
     pub call_type: u8,
@@ -46,7 +51,7 @@ impl Setup {
 }
 
 // A group call, all but its media.
-#[derive(Clone, Copy)]
+#[derive(Clone, Copy, PartialEq, Eq)]
 pub struct GroupCall {
     pub identifier: u16,
     pub group: u32,
@@ -73,7 +78,7 @@ impl GroupCall {
 }
 
 // A user's acceptance of a group call.
-#[derive(Clone, Copy)]
+#[derive(Clone, Copy, PartialEq, Eq)]
 pub struct Acceptance {
     pub identifier: u16,
     pub sender: u32,
@@ -82,7 +87,7 @@ pub struct Acceptance {
 }
 
 // The nine kinds of message, 01 to 09; a reject has its reason, an announcement its confirm beside it.
-#[derive(Clone, Copy)]
+#[derive(Clone, Copy, PartialEq, Eq)]
 pub enum Message {
     SetupRequest(Parties, Setup),
     Ringing(Parties),
@@ -98,4 +103,11 @@ pub enum Message {
 impl Message {
     // The length of the longest line: a buffer of so many bytes has room for every message.
     pub const LONGEST: usize = 63;
+}
+
+// A frame: a message, and the media beside it.
+#[derive(Clone, Copy, PartialEq, Eq)]
+pub struct Frame {
+    pub message: Message,
+    pub media: Media,
 }

@@ -1,61 +1,47 @@
-// The range of every field of a message, one function a range.
+// The range of every field of a message.
 ghost use Rattle.std.specs.Prelude.{◌≡◌};
-ghost use Rattle.frame.specs.Digits.{two, four};
-ghost use Rattle.frame.specs.Range.{never_zero, time_good, flag_good, type_good, reason_good, pck_good};
+ghost use Rattle.frame.specs.Range.{is_in};
 ghost use Rattle.frame.specs.Frame.{parties_good, setup_good, group_call_good, acceptance_good, in_range};
 
-use crate::{Acceptance, GroupCall, Media, Message, Parties, Setup};
+use crate::{Acceptance, Frame, GroupCall, Message, Parties, Setup};
 
-// An identifier or a refresh.
-fn two_good(v: u16) -> bool
-    ensures { result ≡ never_zero two v }
-{
-    (1 <= v) & (v <= 65535)
+// What the fields of a message are: each has its range.
+#[derive(Clone, Copy, PartialEq, Eq)]
+pub enum Range {
+    // An identifier or a refresh.
+    TwoBytes,
+    // A user, a group or media.
+    FourBytes,
+    // A start or a last change: any time.
+    Time,
+    // A commencement or a confirm.
+    Flag,
+    // The type of a private call.
+    PrivateType,
+    // The type of a group call.
+    GroupType,
+    // The reason of a reject.
+    Reason,
+    // A PCK-ID: 0, or 0001 in its top four bits.
+    PckId,
 }
 
-// A user or a group.
-pub(crate) fn four_good(v: u32) -> bool
-    ensures { result ≡ never_zero four v }
-{
-    (1 <= v) & (v <= 4294967295)
-}
-
-// A start or a last change: any time.
-fn time_good(time: u32) -> bool
-    ensures { result ≡ time_good time }
-{
-    time <= 4294967295
-}
-
-// A commencement or a confirm.
-fn flag_good(flag: u8) -> bool
-    ensures { result ≡ flag_good flag }
-{
-    flag <= 1
-}
-
-// The type of a call in a message of this kind.
-fn type_good(kind: u8, call_type: u8) -> bool
-    ensures { result ≡ type_good kind call_type }
-{
-    if kind == 1 {
-        return call_type == Setup::PRIVATE;
+impl Range {
+    // Whether a value is in the range.
+    pub fn has(self, value: u32) -> bool
+        ensures { result ≡ is_in self value }
+    {
+        match self {
+            Range::TwoBytes => 1 <= value && value <= 65_535,
+            Range::FourBytes => 1 <= value && value <= 4_294_967_295,
+            Range::Time => value <= 4_294_967_295,
+            Range::Flag => value <= 1,
+            Range::PrivateType => value == Setup::PRIVATE as u32,
+            Range::GroupType => 1 <= value && value <= 3,
+            Range::Reason => value <= 4,
+            Range::PckId => value == 0 || value / 0x1000_0000 == 0b0001,
+        }
     }
-    (1 <= call_type) & (call_type <= 3)
-}
-
-// The reason of a reject.
-fn reason_good(reason: u8) -> bool
-    ensures { result ≡ reason_good reason }
-{
-    reason <= 4
-}
-
-// A PCK-ID: 0, or 0001 in its top four bits.
-fn pck_good(pck_id: u32) -> bool
-    ensures { result ≡ pck_good pck_id }
-{
-    (pck_id == 0) | (pck_id / 0x1000_0000 == 0b0001)
 }
 
 impl Parties {
@@ -64,7 +50,9 @@ impl Parties {
     fn is_good(self) -> bool
         ensures { result ≡ parties_good self }
     {
-        two_good(self.identifier) & (four_good(self.caller) & four_good(self.callee))
+        Range::TwoBytes.has(self.identifier as u32)
+            && Range::FourBytes.has(self.caller)
+            && Range::FourBytes.has(self.callee)
     }
 }
 
@@ -74,7 +62,9 @@ impl Setup {
     fn is_good(self) -> bool
         ensures { result ≡ setup_good self }
     {
-        flag_good(self.commencement) & (type_good(1, self.call_type) & pck_good(self.pck_id))
+        Range::Flag.has(self.commencement as u32)
+            && Range::PrivateType.has(self.call_type as u32)
+            && Range::PckId.has(self.pck_id)
     }
 }
 
@@ -84,13 +74,14 @@ impl GroupCall {
     fn is_good(self) -> bool
         ensures { result ≡ group_call_good self }
     {
-        two_good(self.identifier)
-            & (four_good(self.group)
-                & (type_good(8, self.call_type)
-                    & (two_good(self.refresh)
-                        & (four_good(self.originator)
-                            & (time_good(self.start)
-                                & (time_good(self.last_change) & four_good(self.last_changer)))))))
+        Range::TwoBytes.has(self.identifier as u32)
+            && Range::FourBytes.has(self.group)
+            && Range::GroupType.has(self.call_type as u32)
+            && Range::TwoBytes.has(self.refresh as u32)
+            && Range::FourBytes.has(self.originator)
+            && Range::Time.has(self.start)
+            && Range::Time.has(self.last_change)
+            && Range::FourBytes.has(self.last_changer)
     }
 }
 
@@ -100,27 +91,35 @@ impl Acceptance {
     fn is_good(self) -> bool
         ensures { result ≡ acceptance_good self }
     {
-        two_good(self.identifier)
-            & (four_good(self.sender) & (type_good(9, self.call_type) & four_good(self.group)))
+        Range::TwoBytes.has(self.identifier as u32)
+            && Range::FourBytes.has(self.sender)
+            && Range::GroupType.has(self.call_type as u32)
+            && Range::FourBytes.has(self.group)
     }
 }
 
-// Every field of a message is in its range, and so is its media where its kind carries media.
-#[tactic(auto, unfolding(crate::specs::Frame::in_range))]
-pub fn in_range(message: Message, media: Media) -> bool
-    ensures { result ≡ in_range message media }
-{
-    match message {
-        Message::SetupRequest(p, s) => media.is_good() & (p.is_good() & s.is_good()),
-        Message::Ringing(p) => p.is_good(),
-        Message::Accept(p) => media.is_good() & p.is_good(),
-        Message::Reject(p, reason) => p.is_good() & reason_good(reason),
-        Message::Release(p) => p.is_good(),
-        Message::ReleaseAck(p) => p.is_good(),
-        Message::AcceptAck(p) => p.is_good(),
-        Message::Announcement(c, confirm) => {
-            media.is_good() & (c.is_good() & flag_good(confirm))
+impl Frame {
+    // Every field of the message is in its range, and so is the media where its kind carries media.
+    #[tactic(auto, unfolding(crate::specs::Frame::in_range))]
+    pub fn in_range(self) -> bool
+        ensures { result ≡ in_range self.message self.media }
+    {
+        match self.message {
+            Message::SetupRequest(parties, setup) => {
+                self.media.is_good() && parties.is_good() && setup.is_good()
+            }
+            Message::Accept(parties) => self.media.is_good() && parties.is_good(),
+            Message::Reject(parties, reason) => {
+                parties.is_good() && Range::Reason.has(reason as u32)
+            }
+            Message::Announcement(call, confirm) => {
+                self.media.is_good() && call.is_good() && Range::Flag.has(confirm as u32)
+            }
+            Message::GroupAccept(acceptance) => acceptance.is_good(),
+            Message::Ringing(parties)
+            | Message::Release(parties)
+            | Message::ReleaseAck(parties)
+            | Message::AcceptAck(parties) => parties.is_good(),
         }
-        Message::GroupAccept(a) => a.is_good(),
     }
 }

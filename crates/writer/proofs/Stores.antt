@@ -15,8 +15,8 @@ use Rattle.frame.specs.declared.Media.{Media}
 use Rattle.frame.specs.declared.Message.{Message}
 use Rattle.frame.proofs.Hex.{length-hex}
 use Rattle.frame.proofs.Frames.{length_front, length-media, length-frame, length-line}
+use Rattle.writer.specs.Lent.{Written}
 use Rattle.writer.specs.Writing.{write_number, written_of, buffer_of}
-use Rattle.writer.specs.declared.Written.{Written}
 
 -- ---- stores one after the other
 

@@ -1,39 +1,30 @@
 // The fields of a frame written at their places of a buffer.
 ghost use Rattle.std.specs.Prelude.{◌≡◌, [], ◌∷◌, ◌+◌, ◌≤◌, length};
 ghost use Rattle.std.proofs.lemmas.List.Edits.{sets};
-ghost use Rattle.frame.specs.Digits.{all_in_hex};
+ghost use Rattle.frame.specs.Digits.{all_in_hex, in_hex, one};
 ghost use Rattle.frame.specs.Frame.{kind_of};
+ghost use Rattle.frame.specs.Kind.{kind_number};
 ghost use Rattle.frame.specs.Layout.{front, back, digits_of, frame_in_hex};
 ghost use Rattle.frame.specs.Layout.{parties_then, group_front, group_back, acceptance_then};
 
 use crate::carried::put_media;
 use crate::put::{put_four, put_one, put_two};
-use frame::{Acceptance, GroupCall, Media, Message, Parties, Setup};
+use frame::{Acceptance, Frame, GroupCall, Kind, Media, Message, Parties, Setup};
 
-// How many digits the line of a message has.
-#[tactic(auto, unfolding(frame::specs::Layout::digits_of))]
-pub(crate) fn digits_of(message: Message) -> usize
-    ensures { result ≡ digits_of (kind_of message) }
+// The kind, which begins a line.
+fn put_kind(out: &mut [u8], kind: Kind)
+    requires { 2 ≤ length out.old }
+    ensures { out.new ≡ sets out.old 0 (in_hex one (kind_number kind)) }
 {
-    match message {
-        Message::SetupRequest(_, _) => 42,
-        Message::Ringing(_) => 22,
-        Message::Accept(_) => 30,
-        Message::Reject(_, _) => 24,
-        Message::Release(_) => 22,
-        Message::ReleaseAck(_) => 22,
-        Message::AcceptAck(_) => 22,
-        Message::Announcement(_, _) => Message::LONGEST - 1,
-        Message::GroupAccept(_) => 24,
-    }
+    put_one(out, 0, kind as u8);
 }
 
 // The kind, and the identifier and the users of a private call.
-fn put_parties(out: &mut [u8], kind: u8, p: Parties)
+fn put_parties(out: &mut [u8], kind: Kind, p: Parties)
     requires { 22 ≤ length out.old }
-    ensures { out.new ≡ sets out.old 0 (all_in_hex (front 2) (kind ∷ parties_then p [])) }
+    ensures { out.new ≡ sets out.old 0 (all_in_hex (front 2) (kind_number kind ∷ parties_then p [])) }
 {
-    put_one(out, 0, kind);
+    put_kind(out, kind);
     put_two(out, 2, p.identifier);
     put_four(out, 6, p.caller);
     put_four(out, 14, p.callee);
@@ -44,7 +35,7 @@ fn put_setup(out: &mut [u8], p: Parties, s: Setup, media: Media)
     requires { 42 ≤ length out.old }
     ensures { out.new ≡ sets out.old 0 (frame_in_hex (Message.SetupRequest p s) media) }
 {
-    put_parties(out, 1, p);
+    put_parties(out, Kind::SetupRequest, p);
     put_one(out, 22, s.commencement);
     put_one(out, 24, s.call_type);
     put_media(out, 26, media);
@@ -56,7 +47,7 @@ fn put_group_front(out: &mut [u8], c: GroupCall)
     requires { 20 ≤ length out.old }
     ensures { out.new ≡ sets out.old 0 (all_in_hex (front 8) (8 ∷ group_front c)) }
 {
-    put_one(out, 0, 8);
+    put_kind(out, Kind::Announcement);
     put_two(out, 2, c.identifier);
     put_four(out, 6, c.group);
     put_one(out, 14, c.call_type);
@@ -90,7 +81,7 @@ fn put_acceptance(out: &mut [u8], a: Acceptance)
     requires { 24 ≤ length out.old }
     ensures { out.new ≡ sets out.old 0 (all_in_hex (front 9) (9 ∷ acceptance_then a)) }
 {
-    put_one(out, 0, 9);
+    put_kind(out, Kind::GroupAccept);
     put_two(out, 2, a.identifier);
     put_four(out, 6, a.sender);
     put_one(out, 14, a.call_type);
@@ -99,25 +90,26 @@ fn put_acceptance(out: &mut [u8], a: Acceptance)
 
 // The digits of a frame, at the front of out.
 #[tactic(auto, unfolding(frame::specs::Layout::digits_of))]
-pub(crate) fn put_frame(out: &mut [u8], message: Message, media: Media)
-    requires { digits_of (kind_of message) ≤ length out.old }
-    ensures { out.new ≡ sets out.old 0 (frame_in_hex message media) }
+pub(crate) fn put_frame(out: &mut [u8], frame: Frame)
+    requires { digits_of (kind_of frame.message) ≤ length out.old }
+    ensures { out.new ≡ sets out.old 0 (frame_in_hex frame.message frame.media) }
 {
+    let Frame { message, media } = frame;
     match message {
         Message::SetupRequest(p, s) => put_setup(out, p, s, media),
-        Message::Ringing(p) => put_parties(out, 2, p),
         Message::Accept(p) => {
-            put_parties(out, 3, p);
+            put_parties(out, Kind::Accept, p);
             put_media(out, 22, media);
         }
         Message::Reject(p, reason) => {
-            put_parties(out, 4, p);
+            put_parties(out, Kind::Reject, p);
             put_one(out, 22, reason);
         }
-        Message::Release(p) => put_parties(out, 5, p),
-        Message::ReleaseAck(p) => put_parties(out, 6, p),
-        Message::AcceptAck(p) => put_parties(out, 7, p),
         Message::Announcement(c, confirm) => put_announcement(out, c, confirm, media),
         Message::GroupAccept(a) => put_acceptance(out, a),
+        Message::Ringing(p) => put_parties(out, Kind::Ringing, p),
+        Message::Release(p) => put_parties(out, Kind::Release, p),
+        Message::ReleaseAck(p) => put_parties(out, Kind::ReleaseAck, p),
+        Message::AcceptAck(p) => put_parties(out, Kind::AcceptAck, p),
     }
 }

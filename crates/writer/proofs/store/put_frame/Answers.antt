@@ -3,10 +3,10 @@ use Rattle.writer.proofs.Stores.{sets-cons, sets-none, sets-frame}
 use Rattle.writer.proofs.store.put_frame.Goals as goal
 
 pub returns-in-Ringing : goal.returns-in-Ringing
-returns-in-Ringing c = rw (c.put_parties.ensures, c.in-Ringing.is, ← sets-frame) (simp sets-none)
+returns-in-Ringing c = rw (c.put_parties-in-Ringing.ensures, c.in-Ringing.is, ← sets-frame) (simp sets-none)
 
 pub returns-in-Accept : goal.returns-in-Accept
-returns-in-Accept c = rw (c.put_media.ensures, c.put_parties-in-Accept.ensures, c.in-Accept.is, ← sets-frame) (simp sets-none)
+returns-in-Accept c = rw (c.put_media.ensures, c.put_parties.ensures, c.in-Accept.is, ← sets-frame) (simp sets-none)
 
 pub returns-in-Reject : goal.returns-in-Reject
 returns-in-Reject c = rw (c.put_one.ensures, c.put_parties-in-Reject.ensures, c.in-Reject.is, ← sets-frame) (simp (sets-cons, sets-none))

@@ -3,4 +3,4 @@ use Rattle.writer.proofs.Stores.{sets-cons, sets-none}
 use Rattle.writer.proofs.store.put_group_front.Goals as goal
 
 pub returns : goal.returns
-returns c = rw (c.put_two-2.ensures, c.put_one-2.ensures, c.put_four.ensures, c.put_two.ensures, c.put_one.ensures, sets-cons, sets-cons, sets-cons, sets-cons, sets-cons, sets-none)
+returns c = rw (c.put_two-2.ensures, c.put_one.ensures, c.put_four.ensures, c.put_two.ensures, c.put_kind.ensures, sets-cons, sets-cons, sets-cons, sets-cons, sets-cons, sets-none)

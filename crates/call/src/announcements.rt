@@ -27,14 +27,10 @@ fn raised_to(settings: Settings, raise: GroupRaise) -> GroupCall
     ensures { result ≡ raised_to settings raise }
 {
     GroupCall {
-        identifier: 0,
-        group: 0,
         call_type: raise.call_type,
-        refresh: 0,
-        originator: 0,
-        start: 0,
         last_change: raise.now,
         last_changer: settings.own_user,
+        ..GroupCall::NONE
     }
 }
 
@@ -47,13 +43,11 @@ fn group_action_announced(settings: Settings, action: GroupAction) -> Announced
             call: started_group_call(settings, start),
             confirm: start.confirm,
         },
-        GroupAction::Accept => Announced::NONE,
-        GroupAction::Reject => Announced::NONE,
-        GroupAction::Leave => Announced::NONE,
         GroupAction::Raise(raise) => Announced {
             call: raised_to(settings, raise),
-            confirm: 0,
+            ..Announced::NONE
         },
+        _ => Announced::NONE,
     }
 }
 
@@ -72,17 +66,7 @@ pub(crate) fn message_announced(message: Message) -> Announced
     ensures { result ≡ message_announced message }
 {
     match message {
-        Message::SetupRequest(_, _) => Announced::NONE,
-        Message::Ringing(_) => Announced::NONE,
-        Message::Accept(_) => Announced::NONE,
-        Message::Reject(_, _) => Announced::NONE,
-        Message::Release(_) => Announced::NONE,
-        Message::ReleaseAck(_) => Announced::NONE,
-        Message::AcceptAck(_) => Announced::NONE,
-        Message::Announcement(call, confirm) => Announced {
-            call: call,
-            confirm: confirm,
-        },
-        Message::GroupAccept(_) => Announced::NONE,
+        Message::Announcement(call, confirm) => Announced { call, confirm },
+        _ => Announced::NONE,
     }
 }

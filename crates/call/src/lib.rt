@@ -1,5 +1,5 @@
-// What the private and the group machine share: settings, timers and what becomes of them, actions, events, what is
-// sent; and the setup request or the announcement that an event brings.
+// What the private and the group machine share: settings, timers and what becomes of them, actions and events; and the
+// setup request or the announcement that an event brings.
 #![tactic(auto)]
 
 mod announcements;
@@ -14,7 +14,7 @@ ghost use Rattle.call.specs.Settings.{restricted as restricted_by};
 use frame::{GroupCall, Media, Message, Parties, Setup};
 
 // The three counters, each of the sendings of one message; and a limit for each of them.
-#[derive(Clone, Copy)]
+#[derive(Clone, Copy, PartialEq, Eq)]
 pub struct Counters {
     pub cfp1: u8,
     pub cfp3: u8,
@@ -37,7 +37,7 @@ impl Counters {
 }
 
 // What the terminal is set to.
-#[derive(Clone, Copy)]
+#[derive(Clone, Copy, PartialEq, Eq)]
 pub struct Settings {
     pub own_user: u32,
     pub own_group: u32,
@@ -56,14 +56,14 @@ impl Settings {
 }
 
 // What the host finds out: whether media can be set up, and whether the signature is good.
-#[derive(Clone, Copy)]
+#[derive(Clone, Copy, PartialEq, Eq)]
 pub struct Verdicts {
     pub media: bool,
     pub signature: bool,
 }
 
 // The timers of the private machine.
-#[derive(Clone, Copy)]
+#[derive(Clone, Copy, PartialEq, Eq)]
 pub enum PrivateTimer {
     Tfp1,
     Tfp2,
@@ -74,7 +74,7 @@ pub enum PrivateTimer {
 }
 
 // The timers of the group machine.
-#[derive(Clone, Copy)]
+#[derive(Clone, Copy, PartialEq, Eq)]
 pub enum GroupTimer {
     Tfg2,
     Tfg4,
@@ -82,14 +82,14 @@ pub enum GroupTimer {
 }
 
 // The timers, by their machine.
-#[derive(Clone, Copy)]
+#[derive(Clone, Copy, PartialEq, Eq)]
 pub enum Timer {
     Private(PrivateTimer),
     Group(GroupTimer),
 }
 
 // What the user names who starts a private call; its media stands beside it.
-#[derive(Clone, Copy)]
+#[derive(Clone, Copy, PartialEq, Eq)]
 pub struct PrivateStart {
     pub identifier: u16,
     pub callee: u32,
@@ -98,7 +98,7 @@ pub struct PrivateStart {
 }
 
 // What the user does with a private call.
-#[derive(Clone, Copy)]
+#[derive(Clone, Copy, PartialEq, Eq)]
 pub enum PrivateAction {
     Start(PrivateStart),
     End,
@@ -107,7 +107,7 @@ pub enum PrivateAction {
 }
 
 // What the user names who starts a group call, and the time; its media stands beside it.
-#[derive(Clone, Copy)]
+#[derive(Clone, Copy, PartialEq, Eq)]
 pub struct GroupStart {
     pub identifier: u16,
     pub call_type: u8,
@@ -117,14 +117,14 @@ pub struct GroupStart {
 }
 
 // The type that the user raises a group call to, and the time.
-#[derive(Clone, Copy)]
+#[derive(Clone, Copy, PartialEq, Eq)]
 pub struct GroupRaise {
     pub call_type: u8,
     pub now: u32,
 }
 
 // What the user does with a group call.
-#[derive(Clone, Copy)]
+#[derive(Clone, Copy, PartialEq, Eq)]
 pub enum GroupAction {
     Start(GroupStart),
     Accept,
@@ -134,14 +134,14 @@ pub enum GroupAction {
 }
 
 // The user actions, by their machine.
-#[derive(Clone, Copy)]
+#[derive(Clone, Copy, PartialEq, Eq)]
 pub enum Action {
     Private(PrivateAction),
     Group(GroupAction),
 }
 
 // What happens: a user action, the expiry of a timer, or a message that was received.
-#[derive(Clone, Copy)]
+#[derive(Clone, Copy, PartialEq, Eq)]
 pub enum Event {
     Action(Action),
     Expiry(Timer),
@@ -149,22 +149,15 @@ pub enum Event {
 }
 
 // What a step takes in: an event, the media beside it, and the host's verdicts.
-#[derive(Clone, Copy)]
+#[derive(Clone, Copy, PartialEq, Eq)]
 pub struct Input {
     pub event: Event,
     pub media: Media,
     pub verdicts: Verdicts,
 }
 
-// What a step sends; its media stands beside it.
-#[derive(Clone, Copy)]
-pub enum Send {
-    Nothing,
-    Message(Message),
-}
-
 // A setup request: the parties of a private call, and what it says besides.
-#[derive(Clone, Copy)]
+#[derive(Clone, Copy, PartialEq, Eq)]
 pub struct Request {
     pub parties: Parties,
     pub setup: Setup,
@@ -172,6 +165,7 @@ pub struct Request {
 
 impl Request {
     // What an event without a setup request has in its place.
+    // No Option, which is no plainer: `request_of` promises these fields, so each use would unwrap to them.
     pub const NONE: Request = Request {
         parties: Parties::NONE,
         setup: Setup {
@@ -186,11 +180,11 @@ impl Request {
         ensures { result ≡ private_request parties commencement pck_id }
     {
         Request {
-            parties: parties,
+            parties,
             setup: Setup {
-                commencement: commencement,
+                commencement,
                 call_type: Setup::PRIVATE,
-                pck_id: pck_id,
+                pck_id,
             },
         }
     }
@@ -208,7 +202,7 @@ pub fn request_of(settings: Settings, event: Event) -> Request
 }
 
 // An announcement: a group call, all but its media, and whether it asks the others to confirm.
-#[derive(Clone, Copy)]
+#[derive(Clone, Copy, PartialEq, Eq)]
 pub struct Announced {
     pub call: GroupCall,
     pub confirm: u8,
@@ -216,6 +210,7 @@ pub struct Announced {
 
 impl Announced {
     // What an event without an announcement has in its place.
+    // No Option, which is no plainer: `announced_of` promises these fields, so each use would unwrap to them.
     pub const NONE: Announced = Announced {
         call: GroupCall::NONE,
         confirm: 0,

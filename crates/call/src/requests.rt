@@ -26,9 +26,7 @@ fn private_action_request(settings: Settings, action: PrivateAction) -> Request
 {
     match action {
         PrivateAction::Start(start) => start_request(settings, start),
-        PrivateAction::End => Request::NONE,
-        PrivateAction::Accept => Request::NONE,
-        PrivateAction::Reject => Request::NONE,
+        _ => Request::NONE,
     }
 }
 
@@ -47,17 +45,7 @@ pub(crate) fn message_request(message: Message) -> Request
     ensures { result ≡ message_request message }
 {
     match message {
-        Message::SetupRequest(parties, setup) => Request {
-            parties: parties,
-            setup: setup,
-        },
-        Message::Ringing(_) => Request::NONE,
-        Message::Accept(_) => Request::NONE,
-        Message::Reject(_, _) => Request::NONE,
-        Message::Release(_) => Request::NONE,
-        Message::ReleaseAck(_) => Request::NONE,
-        Message::AcceptAck(_) => Request::NONE,
-        Message::Announcement(_, _) => Request::NONE,
-        Message::GroupAccept(_) => Request::NONE,
+        Message::SetupRequest(parties, setup) => Request { parties, setup },
+        _ => Request::NONE,
     }
 }

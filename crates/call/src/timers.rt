@@ -3,7 +3,7 @@ ghost use Rattle.std.specs.Prelude.{◌≡◌};
 ghost use Rattle.call.specs.Timing.{is_stopped, runs_after};
 
 // What the rules ask of one timer.
-#[derive(Clone, Copy)]
+#[derive(Clone, Copy, PartialEq, Eq)]
 pub struct TimerFacts {
     // It ran before the step.
     pub was_running: bool,
@@ -23,13 +23,14 @@ impl TimerFacts {
         ensures { result ≡ is_stopped self }
     {
         self.was_running
-            & (!self.ran_out & (self.stop_asked | (self.state_changes & !self.started)))
+            && !self.ran_out
+            && (self.stop_asked || (self.state_changes && !self.started))
     }
 
     // Whether it runs after the step.
     pub fn runs_after(self) -> bool
         ensures { result ≡ runs_after self }
     {
-        self.started | (self.was_running & (!self.is_stopped() & !self.ran_out))
+        self.started || (self.was_running && !self.is_stopped() && !self.ran_out)
     }
 }

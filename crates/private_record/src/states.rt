@@ -1,13 +1,13 @@
 // The private record: its state, its running timers, its counters and its call; and the phases.
 ghost use Rattle.std.specs.Prelude.{◌≡◌};
 ghost use Rattle.private_record.specs.Formed.{cleared_record};
-ghost use Rattle.private_record.specs.Phases.{same_timers};
+ghost use Rattle.private_record.specs.Phases.{phase_of, running_of};
 
 use call::Counters;
 use frame::{Media, Parties};
 
 // The states: start-stop, ignoring same id, waiting for response, releasing, ongoing, pending.
-#[derive(Clone, Copy)]
+#[derive(Clone, Copy, PartialEq, Eq)]
 pub enum State {
     P0,
     P1,
@@ -18,7 +18,7 @@ pub enum State {
 }
 
 // A set of the private timers.
-#[derive(Clone, Copy)]
+#[derive(Clone, Copy, PartialEq, Eq)]
 pub struct Timers {
     pub tfp1: bool,
     pub tfp2: bool,
@@ -42,66 +42,42 @@ impl Timers {
     // TFP1 alone.
     pub const TFP1: Timers = Timers {
         tfp1: true,
-        tfp2: false,
-        tfp3: false,
-        tfp4: false,
-        tfp5: false,
-        tfp7: false,
+        ..Timers::NONE
     };
 
     // TFP2 alone.
     pub const TFP2: Timers = Timers {
-        tfp1: false,
         tfp2: true,
-        tfp3: false,
-        tfp4: false,
-        tfp5: false,
-        tfp7: false,
+        ..Timers::NONE
     };
 
     // TFP3 alone.
     pub const TFP3: Timers = Timers {
-        tfp1: false,
-        tfp2: false,
         tfp3: true,
-        tfp4: false,
-        tfp5: false,
-        tfp7: false,
+        ..Timers::NONE
     };
 
     // TFP4 alone.
     pub const TFP4: Timers = Timers {
-        tfp1: false,
-        tfp2: false,
-        tfp3: false,
         tfp4: true,
-        tfp5: false,
-        tfp7: false,
+        ..Timers::NONE
     };
 
     // TFP5 alone.
     pub const TFP5: Timers = Timers {
-        tfp1: false,
-        tfp2: false,
-        tfp3: false,
-        tfp4: false,
         tfp5: true,
-        tfp7: false,
+        ..Timers::NONE
     };
 
     // TFP7 alone.
     pub const TFP7: Timers = Timers {
-        tfp1: false,
-        tfp2: false,
-        tfp3: false,
-        tfp4: false,
-        tfp5: false,
         tfp7: true,
+        ..Timers::NONE
     };
 }
 
 // What is known of a call.
-#[derive(Clone, Copy)]
+#[derive(Clone, Copy, PartialEq, Eq)]
 pub struct PrivateCall {
     pub parties: Parties,
     pub commencement: u8,
@@ -120,7 +96,7 @@ impl PrivateCall {
 }
 
 // The private record.
-#[derive(Clone, Copy)]
+#[derive(Clone, Copy, PartialEq, Eq)]
 pub struct PrivateRecord {
     pub state: State,
     pub running: Timers,
@@ -143,10 +119,26 @@ impl PrivateRecord {
     {
         PrivateRecord::CLEARED
     }
+
+    // Its phase: TFP1 tells the two of P2 apart, and TFP2 the two of P5.
+    pub fn phase(self) -> Phase
+        ensures { result ≡ phase_of self }
+    {
+        match self.state {
+            State::P0 => Phase::P0,
+            State::P1 => Phase::P1,
+            State::P2 if self.running.tfp1 => Phase::P2Tfp1,
+            State::P2 => Phase::P2Tfp2,
+            State::P3 => Phase::P3,
+            State::P4 => Phase::P4,
+            State::P5 if self.running.tfp2 => Phase::P5Tfp2,
+            State::P5 => Phase::P5Tfp4,
+        }
+    }
 }
 
 // A state with its running timers: P2 and P5 have two phases each.
-#[derive(Clone, Copy)]
+#[derive(Clone, Copy, PartialEq, Eq)]
 pub enum Phase {
     P0,
     P1,
@@ -158,12 +150,19 @@ pub enum Phase {
     P5Tfp4,
 }
 
-// Whether two sets have the same timers.
-pub(crate) fn same_timers(a: Timers, b: Timers) -> bool
-    ensures { result ≡ same_timers a b }
-{
-    (a.tfp1 == b.tfp1)
-        & ((a.tfp2 == b.tfp2)
-            & ((a.tfp3 == b.tfp3)
-                & ((a.tfp4 == b.tfp4) & ((a.tfp5 == b.tfp5) & (a.tfp7 == b.tfp7)))))
+impl Phase {
+    // What runs in it.
+    pub(crate) fn running(self) -> Timers
+        ensures { result ≡ running_of self }
+    {
+        match self {
+            Phase::P0 => Timers::NONE,
+            Phase::P1 => Timers::TFP7,
+            Phase::P2Tfp1 => Timers::TFP1,
+            Phase::P2Tfp2 | Phase::P5Tfp2 => Timers::TFP2,
+            Phase::P3 => Timers::TFP3,
+            Phase::P4 => Timers::TFP5,
+            Phase::P5Tfp4 => Timers::TFP4,
+        }
+    }
 }

@@ -11,7 +11,8 @@ use Rattle.frame.specs.declared.Media.{Media}
 use Rattle.writer.specs.Lent.{lent_after}
 use Rattle.call.specs.declared.Settings.{Settings}
 use Rattle.call.specs.declared.Input.{Input}
-use Rattle.call.specs.declared.Send.{Send}
+use Rattle.std.specs.Prelude.{Option}
+use Rattle.frame.specs.declared.Message.{Message}
 use Rattle.stepping.specs.Numbers.{number_before_row, number_of_tests, number_sending}
 use Rattle.stepping.specs.Sending.{line_sent, send_number, send_told, send_buffer}
 use Rattle.stepping.proofs.Stepping.{tests-parts}
@@ -34,10 +35,10 @@ nothing_lent n out = go (eqb n 0)
     go false = refl
 
 -- the length told of what is written
-pub told-length : (sent : Send) (media : Media) (out : List ℕ) → send_number sent media out ≡ 0 → (send_told sent media out).length ≡ length (line_sent sent media)
+pub told-length : (sent : Option Message) (media : Media) (out : List ℕ) → send_number sent media out ≡ 0 → (send_told sent media out).length ≡ length (line_sent sent media)
 told-length sent media out w = rw w refl
 
-module _ (s : Settings) (is_well_formed : Bool) (i : Input) (by_row : Bool) (sent : Send) (media : Media) (out : List ℕ) {A : Type 0} (refused : ℕ → A) (moved : A) where
+module _ (s : Settings) (is_well_formed : Bool) (i : Input) (by_row : Bool) (sent : Option Message) (media : Media) (out : List ℕ) {A : Type 0} (refused : ℕ → A) (moved : A) where
   -- the number before a row is looked for
   abbrev before : ℕ
   before = number_before_row s is_well_formed i

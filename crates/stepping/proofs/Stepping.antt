@@ -17,7 +17,8 @@ use Rattle.writer.specs.Writing.{write_number}
 use Rattle.call.specs.Settings.{settings_good}
 use Rattle.call.specs.declared.Settings.{Settings}
 use Rattle.call.specs.declared.Input.{Input}
-use Rattle.call.specs.declared.Send.{Send}
+use Rattle.std.specs.Prelude.{Option, Some, None}
+use Rattle.frame.specs.declared.Message.{Message}
 use Rattle.call.proofs.Laws.{holds}
 use Rattle.stepping.specs.Numbers.{heard_good, arguments_good, number_before_row, number_of_tests, number_sending}
 use Rattle.stepping.specs.Sending.{line_sent, send_number}
@@ -65,7 +66,7 @@ module _ (s : Settings) (is_well_formed : Bool) (i : Input) (by_row : Bool) wher
 -- ---- the number
 
 -- a number 0 of a step passed the tests, and then the writer's is 0
-pub number_passed : (n : ℕ) (sent : Send) (media : Media) (out : List ℕ) → number_sending n sent media out ≡ 0 → (n ≡ 0) × (send_number sent media out ≡ 0)
+pub number_passed : (n : ℕ) (sent : Option Message) (media : Media) (out : List ℕ) → number_sending n sent media out ≡ 0 → (n ≡ 0) × (send_number sent media out ≡ 0)
 number_passed n sent media out e = go (eqb n 0) refl e
   where
     go : (b : Bool) → eqb n 0 ≡ b → cond b (send_number sent media out) n ≡ 0 → (n ≡ 0) × (send_number sent media out ≡ 0)
@@ -73,16 +74,16 @@ number_passed n sent media out e = go (eqb n 0) refl e
     go false t h = absurd (eqb-false n 0 t h)
 
 -- what is sent is in range
-abbrev pub SentGood : Send → Media → Type 0
-SentGood Send.Nothing media = Unit {0}
-SentGood (Send.Message m) media = in_range m media ≡ true
+abbrev pub SentGood : Option Message → Media → Type 0
+SentGood None media = Unit {0}
+SentGood (Some m) media = in_range m media ≡ true
 
 -- the writer's number of what is in range: 6 where there is no room
-room-alone : (sent : Send) (media : Media) (out : List ℕ) → SentGood sent media
+room-alone : (sent : Option Message) (media : Media) (out : List ℕ) → SentGood sent media
     → send_number sent media out ≡ cond (ltb (length out) (length (line_sent sent media))) 6 0
 unfolding write_number
-room-alone Send.Nothing media out g = rw (le-ltb (length out) 0 (omega arith))
-room-alone (Send.Message m) media out g = rw g
+room-alone None media out g = rw (le-ltb (length out) 0 (omega arith))
+room-alone (Some m) media out g = rw g
 
 -- the 8 of a row beside that of the arguments, and 6 last
 sixth : (a b c d t r : Bool) (w : ℕ) → (first_given ((7, a) ∷ (9, b) ∷ (5, c) ∷ (8, d) ∷ (8, t) ∷ []) ≡ 0 → w ≡ cond r 6 0)
@@ -101,7 +102,7 @@ table_tests s is_well_formed i by_row line out =
     (7, not (settings_good s)) ∷ (9, not is_well_formed) ∷ (5, not (heard_good i.event i.media))
     ∷ (8, not (arguments_good s i.event i.media) || by_row) ∷ (6, ltb (length out) (length line)) ∷ []
 
-module _ (s : Settings) (is_well_formed : Bool) (i : Input) (by_row : Bool) (sent : Send) (media : Media)
+module _ (s : Settings) (is_well_formed : Bool) (i : Input) (by_row : Bool) (sent : Option Message) (media : Media)
     (good : number_of_tests s is_well_formed i by_row ≡ 0 → SentGood sent media) (out : List ℕ) where
   -- the number of a step that sends what is in range is the first of them that is given: the writer's 5 never shows
   pub number-of-table : number_sending (number_of_tests s is_well_formed i by_row) sent media out ≡ first_given (table_tests s is_well_formed i by_row (line_sent sent media) out)
@@ -118,9 +119,9 @@ module _ (s : Settings) (is_well_formed : Bool) (i : Input) (by_row : Bool) (sen
       go n a b = rw (eq-eqb n 0 a) b
 
   -- no line is longer than the longest
-  line-at-most : (x : Send) → length (line_sent x media) ≤ longest_line
-  line-at-most Send.Nothing = omega arith
-  line-at-most (Send.Message m) = longest-line.0 m media
+  line-at-most : (x : Option Message) → length (line_sent x media) ≤ longest_line
+  line-at-most None = omega arith
+  line-at-most (Some m) = longest-line.0 m media
 
   -- with room for the longest line 6 never comes up: the number is that of the tests
   pub number-of-tests : longest_line ≤ length out → number_sending (number_of_tests s is_well_formed i by_row) sent media out ≡ number_of_tests s is_well_formed i by_row

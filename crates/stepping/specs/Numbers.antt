@@ -1,5 +1,5 @@
 -- The numbers of a step: 7, 9, and 5 or 8 ahead of any row, whatever the state, then the 8 of a row, then the writer's. Assumes nothing.
-use Rattle.std.specs.Prelude.{ℕ, List, [], ◌∷◌, ◌++◌, Bool, true, cond, not, ◌&&◌, eqb}
+use Rattle.std.specs.Prelude.{ℕ, List, [], ◌∷◌, ◌++◌, Bool, true, cond, not, ◌&&◌, eqb, Option}
 use Rattle.frame.specs.Number.{first_given}
 use Rattle.frame.specs.Range.{time_good, type_good}
 use Rattle.frame.specs.Frame.{in_range}
@@ -17,7 +17,7 @@ use Rattle.call.specs.declared.GroupAction.{GroupAction}
 use Rattle.call.specs.declared.Action.{Action}
 use Rattle.call.specs.declared.Event.{Event}
 use Rattle.call.specs.declared.Input.{Input}
-use Rattle.call.specs.declared.Send.{Send}
+use Rattle.frame.specs.declared.Message.{Message}
 use Rattle.stepping.specs.Sending.{send_number}
 
 -- ---- ahead of any row
@@ -89,5 +89,5 @@ number_of_tests s is_well_formed i refused_by_row = first_given (tests_of_step s
 -- ---- with what is sent
 
 -- the number of a step: that of a test, else the writer's of what is sent
-abbrev pub number_sending : ℕ → Send → Media → List ℕ → ℕ
+abbrev pub number_sending : ℕ → Option Message → Media → List ℕ → ℕ
 number_sending tested sent media out = cond (eqb tested 0) (send_number sent media out) tested

@@ -1,10 +1,11 @@
-// What the steps of both machines do alike: the numbers that they give ahead of any row, and the line that they send.
+// What the steps of both machines do alike: the refusals that they give ahead of any row, the line that they send, and
+// what they answer.
 #![tactic(auto)]
 
 ghost use Rattle.std.specs.Prelude.{◌≡◌};
-ghost use Rattle.frame.specs.Digits.{four};
-ghost use Rattle.frame.specs.Range.{never_zero};
+ghost use Rattle.frame.specs.Refusal.{number_of};
 ghost use Rattle.call.specs.Settings.{limit_good, limits_good, settings_good};
+ghost use Rattle.writer.specs.Lent.{told_by};
 ghost use Rattle.stepping.specs.Numbers.{heard_good, private_start_good, private_arguments_good, group_start_good};
 ghost use Rattle.stepping.specs.Numbers.{raise_good, group_arguments_good, action_good, arguments_good};
 ghost use Rattle.stepping.specs.Numbers.{number_before_row};
@@ -12,42 +13,56 @@ ghost use Rattle.stepping.specs.Sending.{send_told, send_buffer};
 
 use call::{
     Action, Counters, Event, GroupAction, GroupRaise, GroupStart, Input, PrivateAction,
-    PrivateStart, Send, Settings, announced_of, request_of,
+    PrivateStart, Settings, announced_of, request_of,
 };
-use frame::range::in_range;
-use frame::{Media, Message};
-use writer::{Written, write_line};
+use frame::range::Range;
+use frame::{Frame, Media, Message, Refusal};
+use writer::write_line;
+
+// What carrying out a row gives: the next record, the timers to stop, then those to start, and what is sent.
+#[derive(Clone, Copy)]
+pub struct Carried<Record, Timers> {
+    pub next: Record,
+    pub stop: Timers,
+    pub start: Timers,
+    pub sent: Option<Message>,
+}
+
+// What a step answers that is not refused: the row, if one is met, and what carrying it out gives; `stop` comes ahead
+// of `start`, and the line of this length stands at the front of the buffer.
+#[derive(Clone, Copy)]
+pub struct Stepped<Row, Record, Timers> {
+    pub row: Option<Row>,
+    pub next: Record,
+    pub stop: Timers,
+    pub start: Timers,
+    pub length: usize,
+}
 
 // ---- the settings
-
-// Own user and own group: never 0.
-fn own_good(own: u32) -> bool
-    ensures { result ≡ never_zero four own }
-{
-    (1 <= own) & (own <= 4294967295)
-}
 
 // The limit of a counter.
 fn limit_good(limit: u8) -> bool
     ensures { result ≡ limit_good limit }
 {
-    (Counters::LEAST <= limit) & (limit <= Counters::MOST)
+    Counters::LEAST <= limit && limit <= Counters::MOST
 }
 
 // The limits of the three counters.
 fn limits_good(limits: Counters) -> bool
     ensures { result ≡ limits_good limits }
 {
-    limit_good(limits.cfp1) & (limit_good(limits.cfp3) & limit_good(limits.cfp4))
+    limit_good(limits.cfp1) && limit_good(limits.cfp3) && limit_good(limits.cfp4)
 }
 
-// Every setting is in its range.
+// Every setting is in its range: own user and own group are never 0.
 #[tactic(auto, unfolding(call::specs::Settings::settings_good))]
 fn settings_good(settings: Settings) -> bool
     ensures { result ≡ settings_good settings }
 {
-    let limits = settings.limits;
-    own_good(settings.own_user) & (own_good(settings.own_group) & limits_good(limits))
+    Range::FourBytes.has(settings.own_user)
+        && Range::FourBytes.has(settings.own_group)
+        && limits_good(settings.limits)
 }
 
 // ---- what is heard, and what the user asks for
@@ -57,9 +72,8 @@ fn heard_good(event: Event, media: Media) -> bool
     ensures { result ≡ heard_good event media }
 {
     match event {
-        Event::Action(_) => true,
-        Event::Expiry(_) => true,
-        Event::Message(message) => in_range(message, media),
+        Event::Message(message) => Frame { message, media }.in_range(),
+        _ => true,
     }
 }
 
@@ -67,13 +81,10 @@ fn heard_good(event: Event, media: Media) -> bool
 fn private_start_good(settings: Settings, start: PrivateStart, media: Media) -> bool
     ensures { result ≡ private_start_good settings start media }
 {
-    let request = request_of(
-        settings,
-        Event::Action(Action::Private(PrivateAction::Start(start))),
-    );
-    let parties = request.parties;
-    let setup = request.setup;
-    in_range(Message::SetupRequest(parties, setup), media) & !(start.callee == settings.own_user)
+    let event = Event::Action(Action::Private(PrivateAction::Start(start)));
+    let request = request_of(settings, event);
+    let message = Message::SetupRequest(request.parties, request.setup);
+    Frame { message, media }.in_range() && start.callee != settings.own_user
 }
 
 // The arguments of the private actions.
@@ -82,9 +93,7 @@ fn private_arguments_good(settings: Settings, action: PrivateAction, media: Medi
 {
     match action {
         PrivateAction::Start(start) => private_start_good(settings, start, media),
-        PrivateAction::End => true,
-        PrivateAction::Accept => true,
-        PrivateAction::Reject => true,
+        _ => true,
     }
 }
 
@@ -92,19 +101,17 @@ fn private_arguments_good(settings: Settings, action: PrivateAction, media: Medi
 fn group_start_good(settings: Settings, start: GroupStart, media: Media) -> bool
     ensures { result ≡ group_start_good settings start media }
 {
-    let announced = announced_of(
-        settings,
-        Event::Action(Action::Group(GroupAction::Start(start))),
-    );
-    let call = announced.call;
-    in_range(Message::Announcement(call, announced.confirm), media)
+    let event = Event::Action(Action::Group(GroupAction::Start(start)));
+    let announced = announced_of(settings, event);
+    let message = Message::Announcement(announced.call, announced.confirm);
+    Frame { message, media }.in_range()
 }
 
 // The type and the time of a raise.
 fn raise_good(raise: GroupRaise) -> bool
     ensures { result ≡ raise_good raise }
 {
-    ((1 <= raise.call_type) & (raise.call_type <= 3)) & (raise.now <= 4294967295)
+    Range::GroupType.has(raise.call_type as u32) && Range::Time.has(raise.now)
 }
 
 // The arguments of the group actions.
@@ -113,10 +120,8 @@ fn group_arguments_good(settings: Settings, action: GroupAction, media: Media) -
 {
     match action {
         GroupAction::Start(start) => group_start_good(settings, start, media),
-        GroupAction::Accept => true,
-        GroupAction::Reject => true,
-        GroupAction::Leave => true,
         GroupAction::Raise(raise) => raise_good(raise),
+        _ => true,
     }
 }
 
@@ -136,49 +141,43 @@ fn arguments_good(settings: Settings, event: Event, media: Media) -> bool
 {
     match event {
         Event::Action(action) => action_good(settings, action, media),
-        Event::Expiry(_) => true,
-        Event::Message(_) => true,
+        _ => true,
     }
 }
 
-// ---- the number ahead of any row
+// ---- the refusals ahead of any row
 
-// The number that a step gives before it looks for a row: 7 for a setting, 9 for a record that is not well formed,
-// 5 for a field of a message, 8 for an argument of an action; 0 where there is nothing to refuse.
+// What a step refuses before it looks for a row: 7 for a setting, 9 for a record that is not well formed, 5 for a
+// field of a message, 8 for an argument of an action.
 #[tactic(auto, unfolding(crate::specs::Numbers::number_before_row))]
-pub fn number_before_row(settings: Settings, well_formed: bool, input: Input) -> u8
-    ensures { result ≡ number_before_row settings well_formed input }
+pub fn number_before_row(settings: Settings, well_formed: bool, input: Input) -> Result<(), Refusal>
+    ensures { number_of result ≡ number_before_row settings well_formed input }
 {
     if !settings_good(settings) {
-        return 7;
+        return Err(Refusal::WrongSetting);
     }
     if !well_formed {
-        return 9;
+        return Err(Refusal::NotWellFormed);
     }
-    let event = input.event;
-    let media = input.media;
-    if !heard_good(event, media) {
-        return 5;
+    if !heard_good(input.event, input.media) {
+        return Err(Refusal::WrongField);
     }
-    if !arguments_good(settings, event, media) {
-        return 8;
+    if !arguments_good(settings, input.event, input.media) {
+        return Err(Refusal::WrongArgument);
     }
-    0
+    Ok(())
 }
 
 // ---- the line that is sent
 
-// What a step sends, at the front of a lent buffer: nothing, or the line of a message, with the writer's number.
+// What a step sends, at the front of a lent buffer: nothing, or the line of a message, as the writer answers.
 #[tactic(auto, unfolding(writer::specs::Writing::written_of, writer::specs::Writing::buffer_of))]
-pub fn write_sent(sent: Send, media: Media, out: &mut [u8]) -> Written
-    ensures value { result ≡ send_told sent media out.old }
+pub fn write_sent(sent: Option<Message>, media: Media, out: &mut [u8]) -> Result<usize, Refusal>
+    ensures value { told_by result ≡ send_told sent media out.old }
     ensures out_after { out.new ≡ send_buffer sent media out.old }
 {
     match sent {
-        Send::Nothing => Written {
-            number: 0,
-            length: 0,
-        },
-        Send::Message(message) => write_line(message, media, out),
+        None => Ok(0),
+        Some(message) => write_line(Frame { message, media }, out),
     }
 }

@@ -11,22 +11,17 @@ use frame::GroupCall;
 pub fn rank(call_type: u8) -> u8
     ensures { result ≡ rank_of call_type }
 {
-    if call_type == 2 {
-        return 0;
+    match call_type {
+        2 => 0,
+        3 => 1,
+        _ => 2,
     }
-    if call_type == 3 {
-        return 1;
-    }
-    2
 }
 
 // Whether the first call is better than the second: by rank, then by the earlier start, then by the lower identifier.
 pub fn better(first: GroupCall, second: GroupCall) -> bool
     ensures { result ≡ is_better first second }
 {
-    let mine = rank(first.call_type);
-    let other = rank(second.call_type);
-    let lower = first.identifier < second.identifier;
-    let sooner = (first.start < second.start) | ((first.start == second.start) & lower);
-    (mine < other) | ((mine == other) & sooner)
+    (rank(first.call_type), first.start, first.identifier)
+        < (rank(second.call_type), second.start, second.identifier)
 }

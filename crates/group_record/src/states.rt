@@ -1,12 +1,12 @@
 // The group record: its state, its running timers, its call and the call's media.
 ghost use Rattle.std.specs.Prelude.{◌≡◌};
-ghost use Rattle.group_record.specs.States.{same_timers, running_of};
+ghost use Rattle.group_record.specs.States.{running_of};
 ghost use Rattle.group_record.specs.Formed.{cleared_record};
 
 use frame::{GroupCall, Media};
 
 // The states: start-stop, ongoing, and two in which the user is asked, S4 without confirm and S5 with it.
-#[derive(Clone, Copy)]
+#[derive(Clone, Copy, PartialEq, Eq)]
 pub enum State {
     S1,
     S3,
@@ -22,14 +22,13 @@ impl State {
         match self {
             State::S1 => Timers::NONE,
             State::S3 => Timers::TFG2_TFG6,
-            State::S4 => Timers::TFG4,
-            State::S5 => Timers::TFG4,
+            State::S4 | State::S5 => Timers::TFG4,
         }
     }
 }
 
 // A set of the group timers.
-#[derive(Clone, Copy)]
+#[derive(Clone, Copy, PartialEq, Eq)]
 pub struct Timers {
     pub tfg2: bool,
     pub tfg4: bool,
@@ -47,34 +46,31 @@ impl Timers {
     // TFG2 alone.
     pub const TFG2: Timers = Timers {
         tfg2: true,
-        tfg4: false,
-        tfg6: false,
+        ..Timers::NONE
     };
 
     // TFG4 alone.
     pub const TFG4: Timers = Timers {
-        tfg2: false,
         tfg4: true,
-        tfg6: false,
+        ..Timers::NONE
     };
 
     // TFG6 alone.
     pub const TFG6: Timers = Timers {
-        tfg2: false,
-        tfg4: false,
         tfg6: true,
+        ..Timers::NONE
     };
 
     // TFG2 and TFG6, both.
     pub const TFG2_TFG6: Timers = Timers {
         tfg2: true,
-        tfg4: false,
         tfg6: true,
+        ..Timers::NONE
     };
 }
 
 // The group record; its call and media are the nine fields of a group call.
-#[derive(Clone, Copy)]
+#[derive(Clone, Copy, PartialEq, Eq)]
 pub struct GroupRecord {
     pub state: State,
     pub running: Timers,
@@ -97,11 +93,4 @@ impl GroupRecord {
     {
         GroupRecord::CLEARED
     }
-}
-
-// The same timers are in two sets.
-pub(crate) fn same_timers(a: Timers, b: Timers) -> bool
-    ensures { result ≡ same_timers a b }
-{
-    (a.tfg2 == b.tfg2) & ((a.tfg4 == b.tfg4) & (a.tfg6 == b.tfg6))
 }

@@ -1,19 +1,19 @@
 // What happens, and what a row may ask besides.
 ghost use Rattle.std.specs.Prelude.{◌≡◌};
+ghost use Rattle.private_record.specs.Phases.{phase_of, count_of};
 ghost use Rattle.private_rows.specs.Causes.{private_action_cause, action_cause, private_timer_cause, timer_cause};
 ghost use Rattle.private_rows.specs.Causes.{setup_cause, message_cause, cause_of, same_identifier, same_call};
 ghost use Rattle.private_rows.specs.Causes.{message_same, same_of, pck_asked, trusted as trusted_by, facts_of};
 
-use crate::phases::count_of;
 use call::{
     Action, Counters, Event, Input, PrivateAction, PrivateTimer, Request, Settings, Timer,
     Verdicts, request_of,
 };
 use frame::{Message, Parties};
-use private_record::states::{Phase, PrivateCall};
+use private_record::states::{Phase, PrivateRecord};
 
 // What happens to a private call, without any fields; what can meet no row is Other.
-#[derive(Clone, Copy)]
+#[derive(Clone, Copy, PartialEq, Eq)]
 pub enum Cause {
     UserStarts,
     UserEnds,
@@ -36,7 +36,7 @@ pub enum Cause {
 }
 
 // What a row may ask besides the cause and the phase.
-#[derive(Clone, Copy)]
+#[derive(Clone, Copy, PartialEq, Eq)]
 pub struct Facts {
     // The message is of the stored call.
     pub same: bool,
@@ -104,7 +104,7 @@ fn private_timer_cause(timer: PrivateTimer) -> Cause
 fn setup_cause(own: u32, parties: Parties) -> Cause
     ensures { result ≡ setup_cause own parties }
 {
-    if (parties.callee == own) & !(parties.caller == own) {
+    if parties.callee == own && parties.caller != own {
         Cause::SetupHeard
     } else {
         Cause::Other
@@ -119,12 +119,11 @@ fn message_cause(own: u32, message: Message) -> Cause
         Message::SetupRequest(parties, _) => setup_cause(own, parties),
         Message::Ringing(_) => Cause::RingingHeard,
         Message::Accept(_) => Cause::AcceptHeard,
-        Message::Reject(_, _) => Cause::RejectHeard,
+        Message::Reject(..) => Cause::RejectHeard,
         Message::Release(_) => Cause::ReleaseHeard,
         Message::ReleaseAck(_) => Cause::ReleaseAckHeard,
         Message::AcceptAck(_) => Cause::AcceptAckHeard,
-        Message::Announcement(_, _) => Cause::Other,
-        Message::GroupAccept(_) => Cause::Other,
+        _ => Cause::Other,
     }
 }
 
@@ -161,14 +160,13 @@ fn message_same(message: Message, stored: Parties) -> bool
 {
     match message {
         Message::SetupRequest(parties, _) => same_identifier(parties, stored),
-        Message::Ringing(parties) => same_call(parties, stored),
-        Message::Accept(parties) => same_call(parties, stored),
-        Message::Reject(parties, _) => same_call(parties, stored),
-        Message::Release(parties) => same_call(parties, stored),
-        Message::ReleaseAck(parties) => same_call(parties, stored),
-        Message::AcceptAck(parties) => same_call(parties, stored),
-        Message::Announcement(_, _) => false,
-        Message::GroupAccept(_) => false,
+        Message::Ringing(parties)
+        | Message::Accept(parties)
+        | Message::Reject(parties, _)
+        | Message::Release(parties)
+        | Message::ReleaseAck(parties)
+        | Message::AcceptAck(parties) => same_call(parties, stored),
+        _ => false,
     }
 }
 
@@ -177,9 +175,8 @@ fn same_of(event: Event, stored: Parties) -> bool
     ensures { result ≡ same_of event stored }
 {
     match event {
-        Event::Action(_) => false,
-        Event::Expiry(_) => false,
         Event::Message(message) => message_same(message, stored),
+        _ => false,
     }
 }
 
@@ -188,9 +185,8 @@ fn pck_asked(event: Event, request: Request, stored: u32) -> u32
     ensures { result ≡ pck_asked event request stored }
 {
     match event {
-        Event::Action(_) => stored,
-        Event::Expiry(_) => stored,
         Event::Message(_) => request.setup.pck_id,
+        _ => stored,
     }
 }
 
@@ -198,30 +194,34 @@ fn pck_asked(event: Event, request: Request, stored: u32) -> u32
 fn trusted(pck_id: u32, verdicts: Verdicts) -> bool
     ensures { result ≡ trusted_by pck_id verdicts }
 {
-    (pck_id == 0) | verdicts.signature
+    pck_id == 0 || verdicts.signature
+}
+
+// The counter that counts in a phase, of the counters or of their limits; 0 where none does.
+fn count_of(phase: Phase, counters: Counters) -> u8
+    ensures { result ≡ count_of phase counters }
+{
+    match phase {
+        Phase::P2Tfp1 => counters.cfp1,
+        Phase::P3 => counters.cfp3,
+        Phase::P5Tfp4 => counters.cfp4,
+        _ => 0,
+    }
 }
 
 // What a row may ask.
-pub(crate) fn facts_of(
-    settings: Settings,
-    phase: Phase,
-    counters: Counters,
-    call: PrivateCall,
-    input: Input,
-) -> Facts
-    ensures { result ≡ facts_of settings phase counters call input }
+pub(crate) fn facts_of(settings: Settings, stored: PrivateRecord, input: Input) -> Facts
+    ensures { result ≡ facts_of settings (phase_of stored) stored.counters stored.call input }
 {
-    let event = input.event;
-    let verdicts = input.verdicts;
-    let limits = settings.limits;
-    let parties = call.parties;
-    let request = request_of(settings, event);
+    let phase = stored.phase();
+    let request = request_of(settings, input.event);
+    let pck_id = pck_asked(input.event, request, stored.call.pck_id);
     Facts {
-        same: same_of(event, parties),
-        media_verdict: verdicts.media,
+        same: same_of(input.event, stored.call.parties),
+        media_verdict: input.verdicts.media,
         manual: request.setup.commencement == 1,
-        trusted: trusted(pck_asked(event, request, call.pck_id), verdicts),
-        own_caller: parties.caller == settings.own_user,
-        under: count_of(phase, counters) < count_of(phase, limits),
+        trusted: trusted(pck_id, input.verdicts),
+        own_caller: stored.call.parties.caller == settings.own_user,
+        under: count_of(phase, stored.counters) < count_of(phase, settings.limits),
     }
 }

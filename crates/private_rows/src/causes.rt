@@ -1,7 +1,6 @@
 // What happens, and what a row may ask besides.
 ghost use Rattle.std.specs.Prelude.{◌≡◌};
 ghost use Rattle.private_record.specs.Phases.{phase_of, count_of};
-ghost use Rattle.private_rows.specs.Causes.{private_action_cause, action_cause, private_timer_cause, timer_cause};
 ghost use Rattle.private_rows.specs.Causes.{setup_cause, message_cause, cause_of, same_identifier, same_call};
 ghost use Rattle.private_rows.specs.Causes.{message_same, same_of, pck_asked, trusted as trusted_by, facts_of};
 
@@ -54,52 +53,6 @@ pub struct Facts {
 
 // ---- what happens
 
-// A user action.
-fn action_cause(action: Action) -> Cause
-    ensures { result ≡ action_cause action }
-{
-    match action {
-        Action::Private(a) => private_action_cause(a),
-        Action::Group(_) => Cause::Other,
-    }
-}
-
-// A user action of the private machine.
-fn private_action_cause(action: PrivateAction) -> Cause
-    ensures { result ≡ private_action_cause action }
-{
-    match action {
-        PrivateAction::Start(_) => Cause::UserStarts,
-        PrivateAction::End => Cause::UserEnds,
-        PrivateAction::Accept => Cause::UserAccepts,
-        PrivateAction::Reject => Cause::UserRejects,
-    }
-}
-
-// The expiry of a timer.
-fn timer_cause(timer: Timer) -> Cause
-    ensures { result ≡ timer_cause timer }
-{
-    match timer {
-        Timer::Private(t) => private_timer_cause(t),
-        Timer::Group(_) => Cause::Other,
-    }
-}
-
-// The expiry of a timer of the private machine.
-fn private_timer_cause(timer: PrivateTimer) -> Cause
-    ensures { result ≡ private_timer_cause timer }
-{
-    match timer {
-        PrivateTimer::Tfp1 => Cause::Tfp1Expires,
-        PrivateTimer::Tfp2 => Cause::Tfp2Expires,
-        PrivateTimer::Tfp3 => Cause::Tfp3Expires,
-        PrivateTimer::Tfp4 => Cause::Tfp4Expires,
-        PrivateTimer::Tfp5 => Cause::Tfp5Expires,
-        PrivateTimer::Tfp7 => Cause::Tfp7Expires,
-    }
-}
-
 // A setup request counts only if the callee is own and the caller is not.
 fn setup_cause(own: u32, parties: Parties) -> Cause
     ensures { result ≡ setup_cause own parties }
@@ -132,8 +85,17 @@ pub(crate) fn cause_of(settings: Settings, event: Event) -> Cause
     ensures { result ≡ cause_of settings event }
 {
     match event {
-        Event::Action(action) => action_cause(action),
-        Event::Expiry(timer) => timer_cause(timer),
+        Event::Action(Action::Private(PrivateAction::Start(_))) => Cause::UserStarts,
+        Event::Action(Action::Private(PrivateAction::End)) => Cause::UserEnds,
+        Event::Action(Action::Private(PrivateAction::Accept)) => Cause::UserAccepts,
+        Event::Action(Action::Private(PrivateAction::Reject)) => Cause::UserRejects,
+        Event::Expiry(Timer::Private(PrivateTimer::Tfp1)) => Cause::Tfp1Expires,
+        Event::Expiry(Timer::Private(PrivateTimer::Tfp2)) => Cause::Tfp2Expires,
+        Event::Expiry(Timer::Private(PrivateTimer::Tfp3)) => Cause::Tfp3Expires,
+        Event::Expiry(Timer::Private(PrivateTimer::Tfp4)) => Cause::Tfp4Expires,
+        Event::Expiry(Timer::Private(PrivateTimer::Tfp5)) => Cause::Tfp5Expires,
+        Event::Expiry(Timer::Private(PrivateTimer::Tfp7)) => Cause::Tfp7Expires,
+        Event::Action(Action::Group(_)) | Event::Expiry(Timer::Group(_)) => Cause::Other,
         Event::Message(message) => message_cause(settings.own_user, message),
     }
 }

@@ -10,7 +10,9 @@ use Rattle.call.specs.declared.Settings.{Settings}
 use Rattle.call.specs.declared.GroupTimer.{GroupTimer}
 use Rattle.call.specs.declared.Input.{Input}
 use Rattle.call.proofs.Timing.{change-stops-one, spares-one}
+use Rattle.stepping.specs.Answer.{Answer}
 use Rattle.group_record.specs.States.{has}
+use Rattle.group_record.specs.declared.states.Timers.{Timers}
 use Rattle.group_record.specs.declared.states.GroupRecord.{GroupRecord}
 use Rattle.group_rows.specs.Rows.{row_of}
 use Rattle.group_call.specs.Effects.{effect_of}
@@ -18,7 +20,6 @@ use Rattle.group_call.specs.Carried.{ran_out_by, changes, stopped_of, running_af
 use Rattle.group_call.specs.Step.{done_of, step_number, step_of}
 use Rattle.group_call.specs.declared.effects.Effect.{Effect}
 use Rattle.group_call.specs.declared.timers.TimerSets.{TimerSets}
-use Rattle.group_call.specs.declared.Stepped.{Stepped}
 use Rattle.group_call.proofs.Keeping.{has-set}
 use Rattle.group_call.proofs.Steps.{step-done}
 
@@ -66,17 +67,17 @@ module _ (s : Settings) (g : GroupRecord) (i : Input) where
   pub timers-agree : (out : List ℕ) → step_number s g i out ≡ 0 → (t : GroupTimer) → has (step_of s g i out).next.running t
       ≡ (has (step_of s g i out).start t || (has g.running t && (not (has (step_of s g i out).stop t) && not (has (ran_out_by i.event) t))))
   timers-agree out e t =
-      subst (λ (r : Stepped). has r.next.running t ≡ (has r.start t || (has g.running t && (not (has r.stop t) && not (has (ran_out_by i.event) t)))))
+      subst (λ (r : Answer GroupRecord Timers). has r.next.running t ≡ (has r.start t || (has g.running t && (not (has r.stop t) && not (has (ran_out_by i.event) t)))))
       (sym (step-done s g i out e).0) (agree t)
 
   -- leaving a state stops each timer that runs there, if the row does not start it anew
   pub step-change-stops : (out : List ℕ) → step_number s g i out ≡ 0 → (t : GroupTimer) → changes g.state (step_of s g i out).next.state ≡ true
       → has g.running t ≡ true → has (step_of s g i out).start t ≡ false → has (ran_out_by i.event) t ≡ false → has (step_of s g i out).stop t ≡ true
   step-change-stops out e t =
-      subst (λ (r : Stepped). changes g.state r.next.state ≡ true → has g.running t ≡ true → has r.start t ≡ false
+      subst (λ (r : Answer GroupRecord Timers). changes g.state r.next.state ≡ true → has g.running t ≡ true → has r.start t ≡ false
       → has (ran_out_by i.event) t ≡ false → has r.stop t ≡ true) (sym (step-done s g i out e).0) (change-stops t)
 
   -- no step stops the timer whose expiry it is about
   pub step-spares-ran-out : (out : List ℕ) → step_number s g i out ≡ 0 → (t : GroupTimer) → has (ran_out_by i.event) t ≡ true → has (step_of s g i out).stop t ≡ false
   step-spares-ran-out out e t =
-      subst (λ (r : Stepped). has (ran_out_by i.event) t ≡ true → has r.stop t ≡ false) (sym (step-done s g i out e).0) (spares-ran-out t)
+      subst (λ (r : Answer GroupRecord Timers). has (ran_out_by i.event) t ≡ true → has r.stop t ≡ false) (sym (step-done s g i out e).0) (spares-ran-out t)

@@ -1,10 +1,11 @@
 -- What carrying out a row gives, by the rules for all rows. Assumes nothing.
-use Rattle.std.specs.Prelude.{ℕ, Bool, cond, not, eqb, ltb}
+use Rattle.std.specs.Prelude.{ℕ, Bool, cond, not, eqb, ltb, Option, Some, None}
 use Rattle.frame.specs.Media.{no_media}
 use Rattle.frame.specs.Frame.{no_group_call}
 use Rattle.frame.specs.declared.Media.{Media}
 use Rattle.frame.specs.declared.GroupCall.{GroupCall}
 use Rattle.frame.specs.declared.Acceptance.{Acceptance}
+use Rattle.frame.specs.declared.Message.{Message}
 use Rattle.frame.specs.declared.Message.TheVariants.{Announcement, GroupAccept}
 use Rattle.call.specs.Timing.{is_stopped, runs_after}
 use Rattle.call.specs.Announced.{announced_of}
@@ -13,9 +14,9 @@ use Rattle.call.specs.declared.GroupTimer.{GroupTimer}
 use Rattle.call.specs.declared.Timer.{Timer}
 use Rattle.call.specs.declared.Event.{Event}
 use Rattle.call.specs.declared.Input.{Input}
-use Rattle.call.specs.declared.Send.{Send}
 use Rattle.call.specs.declared.timers.TimerFacts.{TimerFacts}
 use Rattle.call.specs.declared.Announced.{Announced}
+use Rattle.stepping.specs.declared.Carried.{Carried}
 use Rattle.group_record.specs.States.{state_number, has, set_of, no_timer, tfg2, tfg4, tfg6}
 use Rattle.group_record.specs.declared.states.State.{State}
 use Rattle.group_record.specs.declared.states.Timers.{Timers}
@@ -25,7 +26,6 @@ use Rattle.group_call.specs.Effects.{effect_of}
 use Rattle.group_call.specs.declared.effects.Hold.{Hold}
 use Rattle.group_call.specs.declared.effects.Say.{Say}
 use Rattle.group_call.specs.declared.effects.Effect.{Effect}
-use Rattle.group_call.specs.declared.carrying.Carried.{Carried}
 use Rattle.group_call.specs.declared.timers.TimerSets.{TimerSets}
 
 -- ---- the timers
@@ -117,11 +117,11 @@ abbrev pub acceptance : Settings → GroupCall → Acceptance
 acceptance s c = record { identifier = c.identifier; sender = s.own_user; call_type = c.call_type; group = c.group }
 
 -- the message has the fields of the call held afterwards; the first announcement has the user's confirm, any other confirm 0
-abbrev pub sent_of : Settings → Say → GroupCall → ℕ → Send
-sent_of s Say.Nothing call confirm = Send.Nothing
-sent_of s Say.FirstAnnouncement call confirm = Send.Message (Announcement call confirm)
-sent_of s Say.Announcement call confirm = Send.Message (Announcement call 0)
-sent_of s Say.Accept call confirm = Send.Message (GroupAccept (acceptance s call))
+abbrev pub sent_of : Settings → Option Say → GroupCall → ℕ → Option Message
+sent_of s None call confirm = None
+sent_of s (Some Say.FirstAnnouncement) call confirm = Some (Announcement call confirm)
+sent_of s (Some Say.Announcement) call confirm = Some (Announcement call 0)
+sent_of s (Some Say.Accept) call confirm = Some (GroupAccept (acceptance s call))
 
 -- ---- the whole
 
@@ -139,7 +139,7 @@ abbrev pub running_by : State → Timers → Timers → Effect → Timers
 running_by state was out x = running_after (timers_by state was out x)
 
 -- the next record, what stops, what starts, what is sent
-abbrev pub carried_by : Settings → GroupRecord → Timers → Announced → Media → Effect → Carried
+abbrev pub carried_by : Settings → GroupRecord → Timers → Announced → Media → Effect → Carried GroupRecord Timers
 carried_by s g out a media x =
     record {
       next = record {
@@ -154,7 +154,7 @@ carried_by s g out a media x =
     }
 
 -- what carrying out a row gives
-unfoldable pub carry_out : Settings → GroupRecord → Input → Row → Carried
+unfoldable pub carry_out : Settings → GroupRecord → Input → Option Row → Carried GroupRecord Timers
 carry_out s g i row =
     carried_by s g (ran_out_by i.event) (announced_of s i.event) i.media
     (effect_of row g.state (eqb (announced_of s i.event).confirm 1))

@@ -1,62 +1,22 @@
 // What becomes of the timers, by the rules for all rows.
 ghost use Rattle.std.specs.Prelude.{◌≡◌};
-ghost use Rattle.group_record.specs.States.{state_number, has as has_timer};
-ghost use Rattle.group_call.specs.Carried.{ran_out_by, timer_out, group_timer_out, changes};
-ghost use Rattle.group_call.specs.Carried.{timer_facts, stopped_of, running_after};
+ghost use Rattle.group_record.specs.States.{has as has_timer};
+ghost use Rattle.group_call.specs.Carried.{ran_out_by, timer_facts, stopped_of, running_after};
 
 use call::timers::TimerFacts;
 use call::{Event, GroupTimer, Timer};
-use group_record::states::{State, Timers};
-
-// The timer of the group machine that just ran out.
-fn group_timer_out(timer: GroupTimer) -> Timers
-    ensures { result ≡ group_timer_out timer }
-{
-    match timer {
-        GroupTimer::Tfg2 => Timers::TFG2,
-        GroupTimer::Tfg4 => Timers::TFG4,
-        GroupTimer::Tfg6 => Timers::TFG6,
-    }
-}
-
-// The timer of either machine that just ran out.
-fn timer_out(timer: Timer) -> Timers
-    ensures { result ≡ timer_out timer }
-{
-    match timer {
-        Timer::Private(_) => Timers::NONE,
-        Timer::Group(t) => group_timer_out(t),
-    }
-}
+use group_record::states::Timers;
 
 // The timer that just ran out.
 pub(crate) fn ran_out(event: Event) -> Timers
     ensures { result ≡ ran_out_by event }
 {
     match event {
-        Event::Action(_) => Timers::NONE,
-        Event::Expiry(timer) => timer_out(timer),
-        Event::Message(_) => Timers::NONE,
+        Event::Expiry(Timer::Group(GroupTimer::Tfg2)) => Timers::TFG2,
+        Event::Expiry(Timer::Group(GroupTimer::Tfg4)) => Timers::TFG4,
+        Event::Expiry(Timer::Group(GroupTimer::Tfg6)) => Timers::TFG6,
+        _ => Timers::NONE,
     }
-}
-
-// The states by their numbers.
-fn state_number(state: State) -> u8
-    ensures { result ≡ state_number state }
-{
-    match state {
-        State::S1 => 1,
-        State::S3 => 3,
-        State::S4 => 4,
-        State::S5 => 5,
-    }
-}
-
-// Whether the state changes.
-pub(crate) fn state_changes(state: State, to: State) -> bool
-    ensures { result ≡ changes state to }
-{
-    !(state_number(state) == state_number(to))
 }
 
 // Whether a timer is in a set.
@@ -85,15 +45,11 @@ impl TimerSets {
     fn of(self, timer: GroupTimer) -> TimerFacts
         ensures { result ≡ timer_facts self timer }
     {
-        let was_running = self.was_running;
-        let ran_out = self.ran_out;
-        let stop_asked = self.stop_asked;
-        let started = self.started;
         TimerFacts {
-            was_running: has(was_running, timer),
-            ran_out: has(ran_out, timer),
-            stop_asked: has(stop_asked, timer),
-            started: has(started, timer),
+            was_running: has(self.was_running, timer),
+            ran_out: has(self.ran_out, timer),
+            stop_asked: has(self.stop_asked, timer),
+            started: has(self.started, timer),
             state_changes: self.state_changes,
         }
     }

@@ -3,7 +3,6 @@ use Prim.Native.Nat.{ℕ}
 use mathlib.Core.Path.{◌≡◌, sym, ap, ◌∙◌}
 use mathlib.Core.List.{List}
 use mathlib.Core.Bool.{Bool, true, false}
-use native.Mathlib.Omega.{arith}
 use borrow.Author.Tests.{eq-eqb}
 use Rattle.std.specs.Prelude.{Some, None, Result, Err}
 use Rattle.std.specs.Result.{IsErrAnd}
@@ -11,7 +10,6 @@ use Rattle.std.proofs.lemmas.Option.{none-some}
 use Rattle.std.proofs.lemmas.Result.{err_from_is_err_and}
 use Rattle.frame.specs.Refusal.{refusal_number}
 use Rattle.frame.specs.declared.refusal.Refusal.{Refusal}
-use Rattle.frame.specs.declared.refusal.Refusal.TheVariants.{NotEnded, NotDigits, NoKind, WrongLength, WrongField, NoRoom, WrongSetting, WrongArgument, NotWellFormed, NoChoice}
 use Rattle.call.specs.declared.Settings.{Settings}
 use Rattle.call.specs.declared.Input.{Input}
 use Rattle.stepping.specs.Numbers.{number_before_row}
@@ -26,19 +24,6 @@ use Rattle.group_rows.specs.declared.Row.{Row}
 use Rattle.group_rows.proofs.Meets.{same_row}
 use Rattle.group_call.specs.Step.{change_too_early, done_of, refused_of, moved_of, answer_met, step_of, step_buffer}
 use Rattle.group_call.proofs.Steps.{buffer_lent, answer-of-row}
-
--- no refusal has the number 0
-refusal-above-zero : (refusal : Refusal) → refusal_number refusal ≡ 0 → ⊥
-refusal-above-zero NotEnded e = omega (arith, e)
-refusal-above-zero NotDigits e = omega (arith, e)
-refusal-above-zero NoKind e = omega (arith, e)
-refusal-above-zero WrongLength e = omega (arith, e)
-refusal-above-zero WrongField e = omega (arith, e)
-refusal-above-zero NoRoom e = omega (arith, e)
-refusal-above-zero WrongSetting e = omega (arith, e)
-refusal-above-zero WrongArgument e = omega (arith, e)
-refusal-above-zero NotWellFormed e = omega (arith, e)
-refusal-above-zero NoChoice e = omega (arith, e)
 
 -- no row has the number 0
 row-above-zero : (row : Row) → row_number (Some row) ≡ 0 → ⊥
@@ -77,7 +62,7 @@ module _ (s : Settings) (g : GroupRecord) (i : Input) (out : List ℕ) where
   -- refused before a row is looked for
   pub refused-first : (refusal : Refusal) → refusal_number refusal ≡ before → Answers (refused_of (refusal_number refusal) g) out
   refused-first refusal n =
-      as_step (rw n (answers.refused-first s (is_well_formed s g) i early (done_of s g i).sent (done_of s g i).next.media out (λ n. refused_of n g) (answer_met s g i) (λ z. refusal-above-zero refusal (n ∙ z))))
+      as_step (rw n (answers.refused-first s (is_well_formed s g) i early (done_of s g i).sent (done_of s g i).next.media out (λ n. refused_of n g) (answer_met s g i) (λ z. answers.refusal-given refusal (n ∙ z))))
 
   -- refused by G9
   pub refused-by-row : before ≡ 0 → early ≡ true → Answers (refused_of 8 g) out
@@ -87,7 +72,7 @@ module _ (s : Settings) (g : GroupRecord) (i : Input) (out : List ℕ) where
   -- refused by the writer
   pub refused-sending : before ≡ 0 → early ≡ false → (refusal : Refusal) → refusal_number refusal ≡ writers → Answers (refused_of (refusal_number refusal) g) left
   refused-sending e t refusal n =
-      as_step (rw n (answers.refused-sending s (is_well_formed s g) i early (done_of s g i).sent (done_of s g i).next.media out (λ n. refused_of n g) (answer_met s g i) e t (λ z. refusal-above-zero refusal (n ∙ z))))
+      as_step (rw n (answers.refused-sending s (is_well_formed s g) i early (done_of s g i).sent (done_of s g i).next.media out (λ n. refused_of n g) (answer_met s g i) e t (λ z. answers.refusal-given refusal (n ∙ z))))
 
   -- carried out, with the length that the writer tells
   pub carried-out : before ≡ 0 → (row : Row) → Some row ≡ row_of s g i.event → early ≡ false → writers ≡ 0

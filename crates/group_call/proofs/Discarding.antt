@@ -4,13 +4,14 @@ use mathlib.Core.Bool.{Bool, false, not}
 use lib.Dec.{eqb}
 use borrow.Author.Tests.{eq-eqb}
 use Rattle.std.specs.Prelude.{None}
+use Rattle.call.specs.Timing.{timer_facts, stopped_of, running_after}
 use Rattle.call.specs.Announced.{announced_of}
 use Rattle.call.specs.declared.Settings.{Settings}
 use Rattle.call.specs.declared.GroupTimer.{GroupTimer}
 use Rattle.call.specs.declared.Input.{Input}
 use Rattle.call.proofs.Timing.{stops-none, runs-on-one}
 use Rattle.stepping.specs.declared.Carried.{Carried}
-use Rattle.group_record.specs.States.{state_number, no_timer, running_of}
+use Rattle.group_record.specs.States.{state_number, has, no_timer, running_of}
 use Rattle.group_record.specs.declared.states.State.{State}
 use Rattle.group_record.specs.declared.states.Timers.{Timers}
 use Rattle.group_record.specs.declared.states.GroupRecord.{GroupRecord}
@@ -18,7 +19,7 @@ use Rattle.group_rows.specs.Causes.{cause_of, facts_of}
 use Rattle.group_rows.specs.Rows.{row_of}
 use Rattle.group_rows.specs.declared.causes.Cause.{Cause}
 use Rattle.group_call.specs.Effects.{effect_of}
-use Rattle.group_call.specs.Carried.{ran_out_by, changes, stopped_of, running_after, timer_facts, timers_by, stopped_by, running_by, carry_out}
+use Rattle.group_call.specs.Carried.{ran_out_by, changes, timers_by, stopped_by, running_by, carry_out}
 use Rattle.group_call.proofs.Brought.{out_of, ran-out-of}
 use Rattle.group_call.proofs.Settling.{less, Sound, rows-sound}
 use Rattle.group_call.proofs.Keeping.{same-timers, Fit}
@@ -35,7 +36,7 @@ unchanged state = ap not (eq-eqb (state_number state) (state_number state) refl)
 stops-nothing : (state : State) (confirm : Bool) (was out : Timers) → stopped_by state was out (effect_of None state confirm) ≡ no_timer
 unfolding stopped_of
 stops-nothing state confirm was out =
-    let x = timer_facts (timers_by state was out (effect_of None state confirm)) in
+    let x = timer_facts has (timers_by state was out (effect_of None state confirm)) in
     let same = unchanged state in
     λ i. record {
       tfg2 = stops-none (x GroupTimer.Tfg2) refl same i;
@@ -47,7 +48,7 @@ stops-nothing state confirm was out =
 runs_on : (state : State) (confirm : Bool) (was out : Timers) → running_by state was out (effect_of None state confirm) ≡ less was out
 unfolding running_after
 runs_on state confirm was out =
-    let x = timer_facts (timers_by state was out (effect_of None state confirm)) in
+    let x = timer_facts has (timers_by state was out (effect_of None state confirm)) in
     let same = unchanged state in
     λ i. record {
       tfg2 = runs-on-one (x GroupTimer.Tfg2) refl refl same i;

@@ -16,6 +16,7 @@ use Rattle.call.specs.declared.Verdicts.{Verdicts}
 use Rattle.stepping.proofs.Stepping.{Taken, tests-pass}
 use Rattle.group_order.specs.Order.{is_better}
 use Rattle.stepping.specs.Answer.{Answer}
+use Rattle.call.specs.Timing.{stopped_of, running_after}
 use Rattle.group_record.specs.States.{tfg2, tfg2_and6, running_of}
 use Rattle.group_record.specs.Formed.{is_well_formed}
 use Rattle.group_record.specs.declared.states.State.{State}
@@ -28,7 +29,7 @@ use Rattle.group_rows.specs.declared.Row.TheVariants.{G10, G11}
 use Rattle.group_rows.specs.declared.causes.Cause.{Cause}
 use Rattle.group_rows.specs.declared.causes.Facts.{Facts}
 use Rattle.group_rows.proofs.Meets.{found-is-met}
-use Rattle.group_call.specs.Carried.{is_later, stopped_of, running_after, later_change, carry_out}
+use Rattle.group_call.specs.Carried.{is_later, later_change, carry_out}
 use Rattle.group_call.specs.Step.{change_too_early, number_before_sending, discarded, step_of, step_buffer}
 use Rattle.group_call.specs.Hearing.{ongoing, hears}
 use Rattle.group_call.proofs.Keeping.{fit}

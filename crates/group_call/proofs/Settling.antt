@@ -5,6 +5,7 @@ use lib.Dec.{eqb}
 use Rattle.std.specs.Prelude.{Option, Some, None}
 use Rattle.frame.proofs.Laws.{and_split}
 use Rattle.call.proofs.Laws.{both_bools, at-bool}
+use Rattle.call.specs.Timing.{stopped_of, running_after}
 use Rattle.group_record.specs.States.{state_number, has, set_of, same_timers, running_of}
 use Rattle.group_record.specs.declared.states.State.{State}
 use Rattle.group_record.specs.declared.states.Timers.{Timers}
@@ -14,7 +15,7 @@ use Rattle.group_rows.specs.declared.causes.Cause.{Cause}
 use Rattle.group_rows.specs.declared.causes.Facts.{Facts}
 use Rattle.group_rows.proofs.Meets.{each_row}
 use Rattle.group_call.specs.Effects.{effect_of}
-use Rattle.group_call.specs.Carried.{stopped_of, running_after, running_by}
+use Rattle.group_call.specs.Carried.{running_by}
 use Rattle.group_call.specs.declared.effects.Hold.{Hold}
 use Rattle.group_call.specs.declared.effects.Say.{Say}
 use Rattle.group_call.proofs.Brought.{out_of, brings_call, brings_change}

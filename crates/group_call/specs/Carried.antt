@@ -7,14 +7,14 @@ use Rattle.frame.specs.declared.GroupCall.{GroupCall}
 use Rattle.frame.specs.declared.Acceptance.{Acceptance}
 use Rattle.frame.specs.declared.Message.{Message}
 use Rattle.frame.specs.declared.Message.TheVariants.{Announcement, GroupAccept}
-use Rattle.call.specs.Timing.{is_stopped, runs_after}
+unfoldable pub use Rattle.call.specs.Timing.{stopped_of, running_after}
 use Rattle.call.specs.Announced.{announced_of}
 use Rattle.call.specs.declared.Settings.{Settings}
 use Rattle.call.specs.declared.GroupTimer.{GroupTimer}
 use Rattle.call.specs.declared.Timer.{Timer}
 use Rattle.call.specs.declared.Event.{Event}
 use Rattle.call.specs.declared.Input.{Input}
-use Rattle.call.specs.declared.timers.TimerFacts.{TimerFacts}
+use Rattle.call.specs.declared.timers.TimerSets.{TimerSets}
 use Rattle.call.specs.declared.Announced.{Announced}
 use Rattle.stepping.specs.declared.Carried.{Carried}
 use Rattle.group_record.specs.States.{state_number, has, set_of, no_timer, tfg2, tfg4, tfg6}
@@ -26,7 +26,6 @@ use Rattle.group_call.specs.Effects.{effect_of}
 use Rattle.group_call.specs.declared.effects.Hold.{Hold}
 use Rattle.group_call.specs.declared.effects.Say.{Say}
 use Rattle.group_call.specs.declared.effects.Effect.{Effect}
-use Rattle.group_call.specs.declared.timers.TimerSets.{TimerSets}
 
 -- ---- the timers
 
@@ -50,25 +49,6 @@ ran_out_by (Event.Message m) = no_timer
 -- the state changes
 abbrev pub changes : State → State → Bool
 changes state to = not (eqb (state_number state) (state_number to))
-
--- what the rules ask of one timer, from the sets and from whether the state changes
-abbrev pub timer_facts : TimerSets → GroupTimer → TimerFacts
-timer_facts x t =
-    record {
-      was_running = has x.was_running t;
-      ran_out = has x.ran_out t;
-      stop_asked = has x.stop_asked t;
-      started = has x.started t;
-      state_changes = x.state_changes;
-    }
-
--- the timers that are stopped, by the rule for each
-unfoldable pub stopped_of : TimerSets → Timers
-stopped_of x = set_of (λ t. is_stopped (timer_facts x t))
-
--- the timers that run afterwards, by the rule for each
-unfoldable pub running_after : TimerSets → Timers
-running_after x = set_of (λ t. runs_after (timer_facts x t))
 
 -- ---- the call
 
@@ -126,17 +106,17 @@ sent_of s (Some Say.Accept) call confirm = Some (GroupAccept (acceptance s call)
 -- ---- the whole
 
 -- what the rules ask of the timers where some run, one ran out, and a row is carried out
-abbrev pub timers_by : State → Timers → Timers → Effect → TimerSets
+abbrev pub timers_by : State → Timers → Timers → Effect → TimerSets Timers
 timers_by state was out x =
     record { was_running = was; ran_out = out; stop_asked = x.stop; started = x.start; state_changes = changes state x.to }
 
 -- the timers that it stops
 abbrev pub stopped_by : State → Timers → Timers → Effect → Timers
-stopped_by state was out x = stopped_of (timers_by state was out x)
+stopped_by state was out x = stopped_of has set_of (timers_by state was out x)
 
 -- the timers that run afterwards
 abbrev pub running_by : State → Timers → Timers → Effect → Timers
-running_by state was out x = running_after (timers_by state was out x)
+running_by state was out x = running_after has set_of (timers_by state was out x)
 
 -- the next record, what stops, what starts, what is sent
 abbrev pub carried_by : Settings → GroupRecord → Timers → Announced → Media → Effect → Carried GroupRecord Timers

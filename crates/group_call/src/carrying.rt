@@ -1,16 +1,29 @@
 // What carrying out a row of the group call machine gives, by the rules for all rows.
 ghost use Rattle.std.specs.Prelude.{◌≡◌, Some};
 ghost use Rattle.group_call.specs.Carried.{carry_out, is_later, changed_by, later_change, held_of, media_held};
-ghost use Rattle.group_call.specs.Carried.{acceptance, sent_of};
+ghost use Rattle.group_call.specs.Carried.{acceptance, sent_of, ran_out_by};
 
 use crate::effects::{Hold, Say, effect_of};
-use crate::timers;
-use crate::timers::TimerSets;
-use call::{Input, Settings, announced_of};
+use call::timers::TimerSets;
+use call::{Event, GroupTimer, Input, Settings, Timer, announced_of};
 use frame::{Acceptance, GroupCall, Media, Message};
 use group_record::states::{GroupRecord, Timers};
 use group_rows::Row;
 use stepping::Carried;
+
+// ---- the timers
+
+// The timer that just ran out.
+fn ran_out(event: Event) -> Timers
+    ensures { result ≡ ran_out_by event }
+{
+    match event {
+        Event::Expiry(Timer::Group(GroupTimer::Tfg2)) => Timers::TFG2,
+        Event::Expiry(Timer::Group(GroupTimer::Tfg4)) => Timers::TFG4,
+        Event::Expiry(Timer::Group(GroupTimer::Tfg6)) => Timers::TFG6,
+        _ => Timers::NONE,
+    }
+}
 
 // ---- the call
 
@@ -112,7 +125,7 @@ pub(crate) fn carry_out(
     let effect = effect_of(row, stored.state, announced.confirm == 1);
     let sets = TimerSets {
         was_running: stored.running,
-        ran_out: timers::ran_out(input.event),
+        ran_out: ran_out(input.event),
         stop_asked: effect.stop,
         started: effect.start,
         state_changes: stored.state != effect.to,

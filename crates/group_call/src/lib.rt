@@ -3,7 +3,6 @@
 
 mod carrying;
 mod effects;
-mod timers;
 
 ghost use Rattle.std.specs.Prelude.{◌≡◌, Some};
 ghost use Rattle.group_call.specs.Step.{change_too_early, answer_told, step_of, step_buffer};

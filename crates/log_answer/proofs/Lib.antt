@@ -1,5 +1,5 @@
 pub mod LineByLine
-pub mod Turns
+pub mod Placed
 pub mod Answering
 pub mod Room
 pub mod Parts

@@ -3,7 +3,7 @@ ghost use Rattle.std.specs.Prelude.{◌≡◌, ◌≤◌, leb, length};
 ghost use Rattle.writer.specs.Lent.{at_front};
 ghost use Rattle.log_answer.specs.Answer.{answer_to, answer_of};
 
-use log_lines::first_line_length;
+use crate::lines::Lines;
 
 // How long the answer to a line is.
 #[tactic(auto, unfolding(crate::specs::Answer::answer_to))]
@@ -41,16 +41,11 @@ pub(crate) fn has_room(log: &[u8], room: usize) -> bool
         return true;
     }
     let mut left = room;
-    let mut at = 0;
-    while at < log.len() {
-        let rest = &log[at..];
-        let length = first_line_length(rest);
-        let needed = answer_length(&rest[..length]);
-        if left < needed {
+    for line in Lines(log) {
+        let Some(rest) = left.checked_sub(answer_length(line)) else {
             return false;
-        }
-        left -= needed;
-        at += length;
+        };
+        left = rest;
     }
     true
 }
@@ -62,13 +57,8 @@ pub(crate) fn put_answers(log: &[u8], out: &mut [u8]) -> usize
     ensures out_after { out.new ≡ at_front (answer_of log.now) out.old }
 {
     let mut written = 0;
-    let mut at = 0;
-    while at < log.len() {
-        let rest = &log[at..];
-        let length = first_line_length(rest);
-        let more = answer_line(&rest[..length], &mut out[written..]);
-        written += more;
-        at += length;
+    for line in Lines(log) {
+        written += answer_line(line, &mut out[written..]);
     }
     written
 }

@@ -2,6 +2,7 @@
 #![tactic(auto)]
 
 mod answers;
+mod lines;
 
 ghost use Rattle.std.specs.Prelude.{◌≡◌};
 ghost use Rattle.log_lines.specs.Lines.{CutPlace};

@@ -4,12 +4,18 @@ use mathlib.Core.Path.{◌≡◌, refl, sym, ap, ◌∙◌}
 use mathlib.Core.Logic.{⊎_elim}
 use mathlib.Core.List.{List, [], ◌∷◌, ◌++◌, append-nil, flatten}
 use mathlib.Core.Bool.{Bool, true, false, not, cond, false≢true}
-use Prim.Native.Nat.{ℕ, zero, suc, ◌+◌, ◌<◌, ◌≤◌}
+use Prim.Native.Nat.{ℕ, zero, suc, ◌+◌, ◌<◌, ◌≤◌, min}
+use Rattle.std.specs.List.{position_or_len}
+use Rattle.std.proofs.lemmas.List.Sums.{position_or_len_is}
+use Rattle.memchr.specs.Find.{IsFirstByte, is_byte}
+use Rattle.std.specs.Option.{option_map_or}
 use native.Mathlib.Nat.{add-zero, add-suc, zero-add}
 use native.Mathlib.Omega.{arith}
+use Rattle.std.specs.Prelude.{Option, Some, None}
 use lib.ListN.{length, take, drop, get_or, length-append, drop_of_length-le}
 use lib.Seq.{length-take-le, take-append_seam, drop-append_seam, drop-cons}
 use borrow.Author.Tests.{not-true}
+use Rattle.std.proofs.lemmas.Bool.{false_from_ne_true}
 use Rattle.frame.proofs.Laws.{and_split, or_cases, or-none, or_split}
 use Rattle.log_lines.specs.Lines.{is_end, ahead, lines_of, joined, first_line, after_first, end_within, WithoutEnd, ended_line, unended_piece, cut_at_ends, CutPlace}
 
@@ -69,6 +75,16 @@ pub after-is-rest : (log : List ℕ) → drop (length (first_line log)) log ≡ 
 after-is-rest log =
     ap (drop (length (first_line log))) (sym (first-and-after log)) ∙ drop-append_seam (first_line log) (after_first log)
 
+-- so the lines are what is cut off at the length of the first, and the lines of the rest
+pub lines-cut : (log : List ℕ) (n : ℕ) → 1 ≤ length log → n ≡ length (first_line log) → lines_of log ≡ take n log ∷ lines_of (drop n log)
+lines-cut log n h e = rw (e, first-is-front log, after-is-rest log) (lines-first log h)
+
+-- and there are none of an empty log
+pub lines-none : (log : List ℕ) → length log ≡ 0 → lines_of log ≡ []
+unfolding lines_of
+lines-none [] h = refl
+lines-none (x ∷ log) h = absurd (omega arith)
+
 -- the first line is no longer than the log
 pub first-within : (log : List ℕ) → length (first_line log) ≤ length log
 first-within log =
@@ -80,6 +96,28 @@ pub first_some : (log : List ℕ) → 1 ≤ length log → 1 ≤ length (first_l
 unfolding first_line
 first_some [] h = h
 first_some (x ∷ log) h = omega arith
+
+-- it ends behind the first byte that ends a line, or with the log
+first-end : (log : List ℕ) → length (first_line log) ≡ min (position_or_len is_end log + 1) (length log)
+unfolding first_line
+first-end [] = refl
+first-end (x ∷ log) = go (is_end x) (first-end log)
+  where
+    go : (b : Bool) → length (first_line log) ≡ min (position_or_len is_end log + 1) (length log)
+        → suc (length (cond b [] (first_line log))) ≡ min (cond (not b) (1 + position_or_len is_end log) 0 + 1) (suc (length log))
+    go true h = omega arith
+    go false h = omega (arith, h)
+
+-- so its length is what the search for that byte gives
+pub first_length : (log : List ℕ) (r : Option ℕ) → IsFirstByte (is_byte 0x0a) log r → length (first_line log) ≡ option_map_or (λ at. at + 1) r (length log)
+first_length log None none =
+    let all = position_or_len_is is_end log (length log) 0 (omega arith) (λ k l. false_from_ne_true _ (none k (omega arith) l)) (λ w. absurd (omega arith)) in
+    omega (arith, first-end log, all)
+first_length log (Some at) found =
+    let ahead = found.0.before in
+    let within : at < length log = found.0.high in
+    let place = position_or_len_is is_end log at 0 (omega arith) (λ k l. false_from_ne_true _ (ahead k (omega arith) l)) (λ w. found.1) in
+    omega (arith, first-end log, place)
 
 -- a list can be cut wherever it has so many bytes
 pub cut-place : (n : ℕ) (l : List ℕ) → n ≤ length l → CutPlace n l

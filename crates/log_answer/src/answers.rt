@@ -10,10 +10,10 @@ use crate::lines::Lines;
 fn answer_length(line: &[u8]) -> usize
     ensures { result ≡ length (answer_to line.now) }
 {
-    if reader::check_line(line) == 0 {
-        return line.len();
+    match reader::check_line(line) {
+        Ok(()) => line.len(),
+        Err(_) => 3,
     }
-    3
 }
 
 // Writes the answer to a line at the front of out, and tells its length.
@@ -22,15 +22,18 @@ fn answer_line(line: &[u8], out: &mut [u8]) -> usize
     ensures value { result ≡ length (answer_to line.now) }
     ensures out_after { out.new ≡ at_front (answer_to line.now) out.old }
 {
-    let number = reader::check_line(line);
-    if number == 0 {
-        out[..line.len()].copy_from_slice(line);
-        return line.len();
+    match reader::check_line(line) {
+        Ok(()) => {
+            out[..line.len()].copy_from_slice(line);
+            line.len()
+        }
+        Err(refusal) => {
+            out[0] = b'!';
+            out[1] = b'0' + refusal as u8;
+            out[2] = 0x0a;
+            3
+        }
     }
-    out[0] = b'!';
-    out[1] = b'0' + number;
-    out[2] = 0x0a;
-    3
 }
 
 // Whether room bytes hold the answer to a log; three times the log's length always does.

@@ -1,6 +1,7 @@
 pub mod Hex
 pub mod Judged
 pub mod Runs
+pub mod Shortest
 pub mod MediaDigits
 pub mod Accepted
 pub mod Fitting

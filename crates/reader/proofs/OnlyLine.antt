@@ -17,8 +17,8 @@ use Rattle.frame.specs.declared.Media.{Media}
 use Rattle.frame.specs.declared.Message.{Message}
 use Rattle.frame.proofs.NineKinds.{nine}
 use Rattle.reader.specs.Line.{message_at, media_at, count, kind_at, refusal_of, number_of, values_of, reading, refusal, read_line, line_number, line_message}
-use Rattle.reader.specs.declared.Read.TheVariants.{Readable, Refused}
-use Rattle.reader.specs.declared.Reading.{Reading}
+use Rattle.reader.specs.Line.{Readable, Refused}
+use Rattle.reader.specs.Line.{Reading}
 use Rattle.reader.proofs.Hex.{hex-of-numbers}
 use Rattle.reader.proofs.MediaDigits.{hex-of-media}
 use Rattle.reader.proofs.Judged.{digit-in}

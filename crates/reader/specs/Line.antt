@@ -1,8 +1,9 @@
 -- What a line reads as, and the numbers 1 to 5 of a line that is refused. Assumes nothing.
-use Rattle.std.specs.Prelude.{ℕ, ◌-◌, List, [], ◌∷◌, ◌++◌, ◌≡◌, Bool, true, not, ◌||◌, cond, get_or, length, take, ltb, eqb}
+use Rattle.std.specs.Prelude.{ℕ, ◌-◌, List, [], ◌∷◌, ◌++◌, ◌≡◌, Bool, true, not, ◌||◌, cond, get_or, length, take, ltb, eqb, Result, Ok, Err}
 use Rattle.frame.specs.Number.{first_given}
 use Rattle.frame.specs.Digits.{all_digits, one, number_at, numbers_at}
 use Rattle.frame.specs.Range.{within}
+use Rattle.frame.specs.Refusal.{refusal_number}
 use Rattle.frame.specs.Media.{no_media, media_values, media_from}
 use Rattle.frame.specs.Frame.{kind_of, carries, in_range}
 use Rattle.frame.specs.Layout.{front, back, media_place, back_place, digits_of, front_of, back_of}
@@ -13,9 +14,8 @@ use Rattle.frame.specs.declared.GroupCall.{GroupCall}
 use Rattle.frame.specs.declared.Acceptance.{Acceptance}
 use Rattle.frame.specs.declared.Message.{Message}
 use Rattle.frame.specs.declared.Message.TheVariants.{SetupRequest, Ringing, Accept, Reject, Release, ReleaseAck, AcceptAck, Announcement, GroupAccept}
-use Rattle.reader.specs.declared.Read.{Read}
-use Rattle.reader.specs.declared.Read.TheVariants.{Readable, Refused}
-use Rattle.reader.specs.declared.Reading.{Reading}
+use Rattle.frame.specs.declared.Frame.{Frame}
+use Rattle.frame.specs.declared.refusal.Refusal.{Refusal}
 
 -- ---- the frame whose digits a line holds
 
@@ -126,6 +126,16 @@ refusal_of l = first_given (line_tests l)
 
 -- ---- the reader's answer
 
+-- what a line reads as: a message, or the number that refuses it
+pub data Read : Type 0 where
+  Readable : Message → Read
+  Refused : ℕ → Read
+
+-- the reader's answer, with the media beside it; none where the kind carries none and where the line is refused
+pub record Reading : Type 0 where
+  pub read : Read
+  pub media : Media
+
 -- the number of each answer: 0 with a message, else the one that it names
 abbrev pub number_of : Read → ℕ
 number_of (Readable m) = 0
@@ -151,6 +161,11 @@ reading m media = record { read = Readable m; media = media }
 -- a number, and no media
 abbrev pub refusal : ℕ → Reading
 refusal n = record { read = Refused n; media = no_media }
+
+-- what the reader's answer says: the frame, or the number of the refusal
+abbrev pub reading_of : Result Frame Refusal → Reading
+reading_of (Ok frame) = reading frame.message frame.media
+reading_of (Err reason) = refusal (refusal_number reason)
 
 -- what a line reads as: its frame where its number is 0, else the number
 unfoldable pub read_line : List ℕ → Reading

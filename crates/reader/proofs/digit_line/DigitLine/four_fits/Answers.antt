@@ -2,8 +2,8 @@
 use Rattle.std.proofs.Common.{◌∙◌, ap₂, ◌||◌}
 use Rattle.frame.specs.Digits.{two}
 use Rattle.reader.proofs.Judged.{never-zero-twice}
-use Rattle.reader.proofs.judge.four_fits.Goals as goal
+use Rattle.reader.proofs.digit_line.DigitLine.four_fits.Goals as goal
 
 pub returns : goal.returns
 returns c =
-    ap₂ ◌||◌ c.two_fits.ensures c.two_fits-2.ensures ∙ never-zero-twice two c.args.line.now c.args.at
+    ap₂ ◌||◌ c.two_fits.ensures c.two_fits-2.ensures ∙ never-zero-twice two c.args.self.now.bytes.now c.args.at

@@ -6,8 +6,8 @@ use Rattle.frame.specs.declared.GroupCall.{GroupCall}
 use Rattle.frame.specs.declared.Message.{Message}
 use Rattle.frame.specs.declared.Message.TheVariants.{SetupRequest, Ringing, Accept, Reject, Release, ReleaseAck, AcceptAck, Announcement, GroupAccept}
 use Rattle.reader.specs.Line.{line_number, line_message}
-use Rattle.chooser.specs.declared.Chosen.{Chosen}
-use Rattle.chooser.specs.declared.Chosen.TheVariants.{First, Second}
+use Rattle.chooser.specs.declared.Winner.{Winner}
+use Rattle.chooser.specs.declared.Winner.TheVariants.{First, Second}
 use Rattle.reader.specs.Line.{Read, Readable, Refused}
 use Rattle.group_order.specs.Order.{is_better}
 
@@ -87,7 +87,7 @@ unfoldable pub choice_of : List ℕ → List ℕ → ℕ
 choice_of first second = choice_between (line_announced first) (line_announced second)
 
 -- the choice of a line as a number, 0 where neither is chosen
-abbrev pub chosen_number : Option Chosen → ℕ
+abbrev pub chosen_number : Option Winner → ℕ
 chosen_number (Some First) = 1
 chosen_number (Some Second) = 2
 chosen_number None = 0

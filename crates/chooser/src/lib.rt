@@ -10,7 +10,7 @@ use frame::{GroupCall, Message, Refusal};
 
 // Which of two lines is chosen.
 #[derive(Clone, Copy, PartialEq, Eq)]
-pub enum Chosen {
+pub enum Winner {
     First = 1,
     Second = 2,
 }
@@ -48,26 +48,29 @@ fn line_announced(line: &[u8]) -> Option<GroupCall>
 }
 
 // Which of two calls is chosen: the better one, where both are of one group and have two identifiers.
-fn calls_choice(first: GroupCall, second: GroupCall) -> Option<Chosen>
+fn calls_choice(first: GroupCall, second: GroupCall) -> Option<Winner>
     ensures { chosen_number result ≡ calls_choice first second }
 {
     if first.group != second.group || first.identifier == second.identifier {
         return None;
     }
     if group_order::better(first, second) {
-        return Some(Chosen::First);
+        return Some(Winner::First);
     }
-    Some(Chosen::Second)
+    Some(Winner::Second)
 }
 
 // Which of two lines is chosen, if there is a choice.
 #[tactic(auto, unfolding(crate::specs::Choice::choice_of))]
-pub fn choice(first: &[u8], second: &[u8]) -> Option<Chosen>
+pub fn choice(first: &[u8], second: &[u8]) -> Option<Winner>
     ensures { chosen_number result ≡ choice_of first.now second.now }
 {
     let one = line_announced(&first[..]);
     let other = line_announced(&second[..]);
-    calls_choice(one?, other?)
+    match (one, other) {
+        (Some(call), Some(other_call)) => calls_choice(call, other_call),
+        _ => None,
+    }
 }
 
 // Whether one can choose between two lines: the refusal of the first line, else that of the second, else 10 where they
@@ -90,8 +93,8 @@ pub fn choose<'a>(first: &'a [u8], second: &'a [u8]) -> &'a [u8]
         ≡ place_of (choice_of first.now second.now) first.entry second.entry }
 {
     match choice(first, second) {
-        Some(Chosen::First) => first,
-        Some(Chosen::Second) => second,
+        Some(Winner::First) => first,
+        Some(Winner::Second) => second,
         None => &first[..0],
     }
 }

@@ -1,9 +1,11 @@
 // The answers to the lines of a log, one after the other.
 ghost use Rattle.std.specs.Prelude.{◌≡◌, ◌≤◌, leb, length};
 ghost use Rattle.writer.specs.Lent.{at_front};
-ghost use Rattle.log_answer.specs.Answer.{answer_to, answer_of};
+ghost use Rattle.frame.specs.Refusal.{refusal_number};
+ghost use Rattle.log_answer.specs.Answer.{decimal, answer_to, answer_of};
 
 use crate::lines::Lines;
+use frame::Refusal;
 
 // How long the answer to a line is.
 #[tactic(auto, unfolding(crate::specs::Answer::answer_to))]
@@ -14,6 +16,13 @@ fn answer_length(line: &[u8]) -> usize
         Ok(()) => line.len(),
         Err(_) => 3,
     }
+}
+
+// The decimal digit of a refusal's number: none of a line is above nine.
+fn digit_of(refusal: Refusal) -> u8
+    ensures { result ≡ decimal (refusal_number refusal) }
+{
+    b'0' + refusal as u8
 }
 
 // Writes the answer to a line at the front of out, and tells its length.
@@ -29,7 +38,7 @@ fn answer_line(line: &[u8], out: &mut [u8]) -> usize
         }
         Err(refusal) => {
             out[0] = b'!';
-            out[1] = b'0' + refusal as u8;
+            out[1] = digit_of(refusal);
             out[2] = 0x0a;
             3
         }

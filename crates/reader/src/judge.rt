@@ -85,6 +85,7 @@ impl DigitLine<'_> {
 
     // Every field of the frame is in its range.
     #[tactic(auto, unfolding(crate::specs::Line::message_at, crate::specs::Line::media_at, frame::specs::Frame::in_range, frame::specs::Layout::digits_of, frame::specs::Digits::numbers_at))]
+    #[inline(always)]
     pub(crate) fn frame_fits(&self) -> bool
         ensures { result ≡ in_range (message_at (kind_number self.now.kind) self.now.bytes.now) (media_at (kind_number self.now.kind) self.now.bytes.now) }
     {

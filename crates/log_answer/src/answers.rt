@@ -17,20 +17,17 @@ fn answer_length(line: &[u8]) -> usize
 }
 
 // Writes the answer to a line at the front of out, and tells its length.
+#[tactic(auto, unfolding(crate::specs::Answer::answer_to))]
 fn answer_line(line: &[u8], out: &mut [u8]) -> usize
     requires { length (answer_to line.now) ≤ length out.old }
     ensures value { result ≡ length (answer_to line.now) }
     ensures out_after { out.new ≡ at_front (answer_to line.now) out.old }
 {
     let number = reader::check_line(line);
-    if number == 0 {
-        out[..line.len()].copy_from_slice(line);
-        return line.len();
-    }
-    out[0] = b'!';
-    out[1] = b'0' + number;
-    out[2] = 0x0a;
-    3
+    let refusal = [b'!', b'0' + number, b'\n'];
+    let answer = if number == 0 { line } else { &refusal };
+    out[..answer.len()].copy_from_slice(answer);
+    answer.len()
 }
 
 // Whether room bytes hold the answer to a log; three times the log's length always does.

@@ -1,8 +1,7 @@
 // The answers to the lines of a log, one after the other.
 ghost use Rattle.std.specs.Prelude.{◌≡◌, ◌≤◌, leb, length};
 ghost use Rattle.writer.specs.Lent.{at_front};
-ghost use Rattle.frame.specs.Refusal.{refusal_number};
-ghost use Rattle.log_answer.specs.Answer.{decimal, answer_to, answer_of};
+ghost use Rattle.log_answer.specs.Answer.{answer_to, answer_of};
 
 use crate::lines::Lines;
 use frame::Refusal;
@@ -18,31 +17,18 @@ fn answer_length(line: &[u8]) -> usize
     }
 }
 
-// The decimal digit of a refusal's number: none of a line is above nine.
-fn digit_of(refusal: Refusal) -> u8
-    ensures { result ≡ decimal (refusal_number refusal) }
-{
-    b'0' + refusal as u8
-}
-
 // Writes the answer to a line at the front of out, and tells its length.
+#[tactic(auto, unfolding(crate::specs::Answer::answer_to))]
 fn answer_line(line: &[u8], out: &mut [u8]) -> usize
     requires { length (answer_to line.now) ≤ length out.old }
     ensures value { result ≡ length (answer_to line.now) }
     ensures out_after { out.new ≡ at_front (answer_to line.now) out.old }
 {
-    match reader::check_line(line) {
-        Ok(()) => {
-            out[..line.len()].copy_from_slice(line);
-            line.len()
-        }
-        Err(refusal) => {
-            out[0] = b'!';
-            out[1] = digit_of(refusal);
-            out[2] = 0x0a;
-            3
-        }
-    }
+    let number = Refusal::number_of(&reader::check_line(line));
+    let refusal = [b'!', b'0' + number, b'\n'];
+    let answer = if number == 0 { line } else { &refusal };
+    out[..answer.len()].copy_from_slice(answer);
+    answer.len()
 }
 
 // Whether room bytes hold the answer to a log; three times the log's length always does.

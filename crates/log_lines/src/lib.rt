@@ -8,6 +8,7 @@ use memchr::memchr;
 
 // The length of the first line of a part of a log, its end included; of the whole part where no line ends in it, so 0
 // of an empty part.
+#[tactic(auto, using(crate::proofs::Lines::first_length))]
 pub fn first_line_length(part: &[u8]) -> usize
     ensures value { result ≡ length (first_line part.now) }
     ensures cut_place { CutPlace result part.now }

@@ -36,6 +36,7 @@ fn kind_in(values: &[u32]) -> Result<Kind, Refusal>
 }
 
 // The line of the frame with these values at the front of a lent buffer, and its length.
+#[tactic(auto, unfolding(crate::specs::Values::values_number, crate::specs::Values::values_buffer, writer::specs::Writing::written_of))]
 fn write_values(values: &[u32], out: &mut [u8]) -> Result<usize, Refusal>
     ensures value { number_of result ≡ values_number values.now out.old }
     ensures out_after { out.new ≡ values_buffer values.now out.old }

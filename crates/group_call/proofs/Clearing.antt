@@ -7,6 +7,7 @@ use Prim.Native.Nat.{ℕ}
 use native.Mathlib.Omega.{arith}
 use lib.Dec.{eqb}
 use borrow.Author.Tests.{eq-eqb, eqb-true, eqb-false}
+use Rattle.std.specs.Prelude.{Option, Some}
 use Rattle.frame.specs.Media.{no_media}
 use Rattle.frame.specs.Frame.{no_group_call}
 use Rattle.call.specs.declared.Settings.{Settings}
@@ -25,7 +26,7 @@ use Rattle.group_call.proofs.Keeping.{fit, carried-well-formed}
 use Rattle.group_call.proofs.Steps.{tests-passed, step-passed, step-done, step-refused}
 
 -- either of them enters S1 and leaves no call
-leaves-no-call : (s : Settings) (g : GroupRecord) (i : Input) (row : Row) → (row ≡ G7) ⊎ (row ≡ G8) → let next = (carry_out s g i row).next in
+leaves-no-call : (s : Settings) (g : GroupRecord) (i : Input) (row : Option Row) → (row ≡ Some G7) ⊎ (row ≡ Some G8) → let next = (carry_out s g i row).next in
     (next.state ≡ State.S1) × (next.call ≡ no_group_call) × (next.media ≡ no_media)
 unfolding carry_out
 leaves-no-call s g i row (inl e) = rw e (refl, refl, refl)
@@ -46,8 +47,8 @@ rows-7-and-8-clear s g i out told = go (eqb (step_number s g i out) 0) refl
         let done = (step-done s g i out e).0 in
         let row = row_of s g i.event in
         let is : (n : ℕ) → (step_of s g i out).row ≡ n → row_number row ≡ n = λ n h. sym (λ j. (done j).row) ∙ h in
-        let met : (row ≡ G7) ⊎ (row ≡ G8) =
-        ⊎_elim (λ h. inl (same_row row G7 (eq-eqb _ 7 (is 7 h)))) (λ h. inr (same_row row G8 (eq-eqb _ 8 (is 8 h)))) told in
+        let met : (row ≡ Some G7) ⊎ (row ≡ Some G8) =
+        ⊎_elim (λ h. inl (same_row row (Some G7) (eq-eqb _ 7 (is 7 h)))) (λ h. inr (same_row row (Some G8) (eq-eqb _ 8 (is 8 h)))) told in
         (λ j. (done j).next) ∙ is-cleared s (done_of s g i).next (carried-well-formed s g i (tests-passed s g i (step-passed s g i out e).0).0) (leaves-no-call s g i row met)
     go false t =
         let z : (step_of s g i out).row ≡ 0 = λ j. ((step-refused s g i out (eqb-false _ 0 t)).0 j).row in

@@ -3,6 +3,7 @@ use mathlib.Core.Path.{◌≡◌, refl, sym, ap, ◌∙◌}
 use mathlib.Core.Bool.{Bool, true, false, cond, not, ◌&&◌, beq, false≢true}
 use lib.Dec.{eqb}
 use borrow.Author.Tests.{not-true}
+use Rattle.std.specs.Prelude.{Option, Some, None}
 use Rattle.frame.specs.Digits.{four}
 use Rattle.frame.specs.Range.{never_zero}
 use Rattle.frame.specs.Frame.{in_range}
@@ -125,20 +126,20 @@ held-good s state to Hold.Clear c stored own a media m g b = ap (λ (z : Bool). 
 -- ---- what is sent
 
 -- what is said of a call held is in range, and so is the first announcement of a call that is brought
-said-good : (s : Settings) (state to : State) (hold : Hold) (say : Say) (c : Cause) (stored : GroupCall) (own : Media) (a : Announced) (media : Media)
+said-good : (s : Settings) (state to : State) (hold : Hold) (say : Option Say) (c : Cause) (stored : GroupCall) (own : Media) (a : Announced) (media : Media)
     → never_zero four s.own_user ≡ true → may_say c to hold say ≡ true → Brings s.own_group c a media
     → call_good s to (held_of hold stored a.call) (media_held hold own media) ≡ true
     → SentGood (sent_of s say (held_of hold stored a.call) a.confirm) (media_held hold own media)
-said-good s state to hold Say.Nothing c stored own a media o m b g = tt
-said-good s state to Hold.Announced Say.FirstAnnouncement c stored own a media o m b g = (b.call m).in_ranges
-said-good s state to Hold.Keep Say.FirstAnnouncement c stored own a media o m b g = absurd (false≢true m)
-said-good s state to Hold.Change Say.FirstAnnouncement c stored own a media o m b g = absurd (false≢true m)
-said-good s state to Hold.LaterChange Say.FirstAnnouncement c stored own a media o m b g = absurd (false≢true m)
-said-good s state to Hold.Clear Say.FirstAnnouncement c stored own a media o m b g = absurd (false≢true m)
-said-good s state to hold Say.Announcement c stored own a media o m b g =
+said-good s state to hold None c stored own a media o m b g = tt
+said-good s state to Hold.Announced (Some Say.FirstAnnouncement) c stored own a media o m b g = (b.call m).in_ranges
+said-good s state to Hold.Keep (Some Say.FirstAnnouncement) c stored own a media o m b g = absurd (false≢true m)
+said-good s state to Hold.Change (Some Say.FirstAnnouncement) c stored own a media o m b g = absurd (false≢true m)
+said-good s state to Hold.LaterChange (Some Say.FirstAnnouncement) c stored own a media o m b g = absurd (false≢true m)
+said-good s state to Hold.Clear (Some Say.FirstAnnouncement) c stored own a media o m b g = absurd (false≢true m)
+said-good s state to hold (Some Say.Announcement) c stored own a media o m b g =
     (and_split (in_range (Announcement (held_of hold stored a.call) 0) (media_held hold own media)) _
     (one-held s to (held_of hold stored a.call) (media_held hold own media) (not-true _ m) g)).0
-said-good s state to hold Say.Accept c stored own a media o m b g =
+said-good s state to hold (Some Say.Accept) c stored own a media o m b g =
     let call = held_of hold stored a.call in
     let h = and_split (in_range (Announcement call 0) (media_held hold own media)) _ (one-held s to call (media_held hold own media) (not-true _ m) g) in
     accepts s call 0 (media_held hold own media) (media_held hold own media) o (ranged call 0 (media_held hold own media) h.0)
@@ -146,13 +147,13 @@ said-good s state to hold Say.Accept c stored own a media o m b g =
 -- ---- the row that is met, carried out
 
 -- what is sound of a state is so of a record in that state
-timers-at : {f : State} {c : Cause} {confirm : Bool} (row : Row) {was out : Timers} → was ≡ running_of f → out ≡ out_of c → Sound f c confirm row
+timers-at : {f : State} {c : Cause} {confirm : Bool} (row : Option Row) {was out : Timers} → was ≡ running_of f → out ≡ out_of c → Sound f c confirm row
     → same_timers (running_by f was out (effect_of row f confirm)) (running_of (effect_of row f confirm).to) ≡ true
 timers-at row a b x = rw (a, b) x.timers
 
 module _ (s : Settings) (g : GroupRecord) (i : Input) (t : Taken s (is_well_formed s g) i) where
   -- the row that is met
-  abbrev row : Row
+  abbrev row : Option Row
   row = row_of s g i.event
 
   -- whether the announcement asks for confirm

@@ -6,6 +6,7 @@ use mathlib.Core.List.{List}
 use mathlib.Core.Bool.{Bool, true, false, cond}
 use lib.ListN.{length}
 use lib.Dec.{eqb}
+use Rattle.std.specs.Prelude.{Option, Some, None}
 use Rattle.frame.specs.Media.{no_media}
 use Rattle.frame.specs.Frame.{no_group_call}
 use Rattle.frame.specs.declared.Media.{Media}
@@ -18,7 +19,7 @@ use Rattle.group_record.specs.declared.states.State.{State}
 use Rattle.group_record.specs.declared.states.GroupRecord.{GroupRecord}
 use Rattle.group_rows.specs.Rows.{row_number, row_of}
 use Rattle.group_rows.specs.declared.Row.{Row}
-use Rattle.group_rows.specs.declared.Row.TheVariants.{Discard, G1, G2, G3, G4, G5, G6, G7, G8, G9, G10, G11}
+use Rattle.group_rows.specs.declared.Row.TheVariants.{G1, G2, G3, G4, G5, G6, G7, G8, G9, G10, G11}
 use Rattle.group_call.specs.Effects.{effect_of}
 use Rattle.group_call.specs.Carried.{is_later, changed_by, held_of, media_held, carry_out}
 use Rattle.group_call.specs.Step.{done_of, step_line, step_number, refused_of, discarded, moved_of, answer_met, step_of}
@@ -34,20 +35,20 @@ Unmixed row stored own call media held its =
     ⊎ (Is call media held its ⊎ (Is no_group_call no_media held its ⊎ (((row ≡ 9) ⊎ (row ≡ 11)) × Is (changed_by stored call) own held its)))
 
 -- by the row
-unmixed-by : (row : Row) (state : State) (confirm : Bool) (stored : GroupCall) (own : Media) (call : GroupCall) (media : Media)
+unmixed-by : (row : Option Row) (state : State) (confirm : Bool) (stored : GroupCall) (own : Media) (call : GroupCall) (media : Media)
     → let hold = (effect_of row state confirm).hold in Unmixed (row_number row) stored own call media (held_of hold stored call) (media_held hold own media)
-unmixed-by Discard state confirm stored own call media = inl (refl, refl)
-unmixed-by G1 state confirm stored own call media = inr (inl (refl, refl))
-unmixed-by G2 state confirm stored own call media = inl (refl, refl)
-unmixed-by G3 state confirm stored own call media = inr (inl (refl, refl))
-unmixed-by G4 state confirm stored own call media = inr (inl (refl, refl))
-unmixed-by G5 state confirm stored own call media = inl (refl, refl)
-unmixed-by G6 state confirm stored own call media = inl (refl, refl)
-unmixed-by G7 state confirm stored own call media = inr (inr (inl (refl, refl)))
-unmixed-by G8 state confirm stored own call media = inr (inr (inl (refl, refl)))
-unmixed-by G9 state confirm stored own call media = inr (inr (inr (inl refl, (refl, refl))))
-unmixed-by G10 state confirm stored own call media = inr (inl (refl, refl))
-unmixed-by G11 state confirm stored own call media = go (is_later call stored)
+unmixed-by None state confirm stored own call media = inl (refl, refl)
+unmixed-by (Some G1) state confirm stored own call media = inr (inl (refl, refl))
+unmixed-by (Some G2) state confirm stored own call media = inl (refl, refl)
+unmixed-by (Some G3) state confirm stored own call media = inr (inl (refl, refl))
+unmixed-by (Some G4) state confirm stored own call media = inr (inl (refl, refl))
+unmixed-by (Some G5) state confirm stored own call media = inl (refl, refl)
+unmixed-by (Some G6) state confirm stored own call media = inl (refl, refl)
+unmixed-by (Some G7) state confirm stored own call media = inr (inr (inl (refl, refl)))
+unmixed-by (Some G8) state confirm stored own call media = inr (inr (inl (refl, refl)))
+unmixed-by (Some G9) state confirm stored own call media = inr (inr (inr (inl refl, (refl, refl))))
+unmixed-by (Some G10) state confirm stored own call media = inr (inl (refl, refl))
+unmixed-by (Some G11) state confirm stored own call media = go (is_later call stored)
   where
     go : (b : Bool) → Unmixed 11 stored own call media (cond b (changed_by stored call) stored) own
     go true = inr (inr (inr (inr refl, (refl, refl))))

@@ -2,8 +2,10 @@
 use mathlib.Core.Path.{◌≡◌, refl}
 use mathlib.Core.Bool.{Bool, true, false, not, ◌&&◌, ◌||◌, beq}
 use lib.Dec.{eqb}
+use Rattle.std.specs.Prelude.{Option, Some, None}
 use Rattle.frame.proofs.Laws.{and_split}
 use Rattle.call.proofs.Laws.{both_bools, at-bool}
+use Rattle.call.specs.Timing.{stopped_of, running_after}
 use Rattle.group_record.specs.States.{state_number, has, set_of, same_timers, running_of}
 use Rattle.group_record.specs.declared.states.State.{State}
 use Rattle.group_record.specs.declared.states.Timers.{Timers}
@@ -13,7 +15,7 @@ use Rattle.group_rows.specs.declared.causes.Cause.{Cause}
 use Rattle.group_rows.specs.declared.causes.Facts.{Facts}
 use Rattle.group_rows.proofs.Meets.{each_row}
 use Rattle.group_call.specs.Effects.{effect_of}
-use Rattle.group_call.specs.Carried.{stopped_of, running_after, running_by}
+use Rattle.group_call.specs.Carried.{running_by}
 use Rattle.group_call.specs.declared.effects.Hold.{Hold}
 use Rattle.group_call.specs.declared.effects.Say.{Say}
 use Rattle.group_call.proofs.Brought.{out_of, brings_call, brings_change}
@@ -23,7 +25,7 @@ abbrev pub start_stop : State → Bool
 start_stop state = eqb (state_number state) 1
 
 -- the timers that run afterwards are those of the state entered
-abbrev pub settles : State → Cause → Bool → Row → Bool
+abbrev pub settles : State → Cause → Bool → Option Row → Bool
 settles f c confirm row = same_timers (running_by f (running_of f) (out_of c) (effect_of row f confirm)) (running_of (effect_of row f confirm).to)
 
 -- what a row does to the call may be done: there is none in S1, and one elsewhere
@@ -35,7 +37,7 @@ may_hold c state to Hold.LaterChange = brings_change c && (not (start_stop state
 may_hold c state to Hold.Clear = start_stop to
 
 -- by the row
-abbrev pub holds : State → Cause → Bool → Row → Bool
+abbrev pub holds : State → Cause → Bool → Option Row → Bool
 holds f c confirm row = may_hold c f (effect_of row f confirm).to (effect_of row f confirm).hold
 
 -- the call held is the one that the event brings
@@ -47,14 +49,14 @@ holds_new c Hold.LaterChange = false
 holds_new c Hold.Clear = false
 
 -- what a row says may be said: of the call held, and with the user's confirm only of the call that is brought
-abbrev pub may_say : Cause → State → Hold → Say → Bool
-may_say c to hold Say.Nothing = true
-may_say c to hold Say.FirstAnnouncement = holds_new c hold
-may_say c to hold Say.Announcement = not (start_stop to)
-may_say c to hold Say.Accept = not (start_stop to)
+abbrev pub may_say : Cause → State → Hold → Option Say → Bool
+may_say c to hold None = true
+may_say c to hold (Some Say.FirstAnnouncement) = holds_new c hold
+may_say c to hold (Some Say.Announcement) = not (start_stop to)
+may_say c to hold (Some Say.Accept) = not (start_stop to)
 
 -- by the row
-abbrev pub says : State → Cause → Bool → Row → Bool
+abbrev pub says : State → Cause → Bool → Option Row → Bool
 says f c confirm row = may_say c (effect_of row f confirm).to (effect_of row f confirm).hold (effect_of row f confirm).say
 
 -- the timers of a set without those of another
@@ -62,15 +64,15 @@ abbrev pub less : Timers → Timers → Timers
 less was out = set_of (λ t. has was t && not (has out t))
 
 -- where no row is met no running timer ran out
-abbrev pub quiet : State → Cause → Row → Bool
+abbrev pub quiet : State → Cause → Option Row → Bool
 quiet f c row = not (eqb (row_number row) 0) || same_timers (less (running_of f) (out_of c)) (running_of f)
 
 -- all four, whatever confirm is
-abbrev sound : State → Cause → Row → Bool
+abbrev sound : State → Cause → Option Row → Bool
 sound f c row = both_bools (λ confirm. settles f c confirm row && (holds f c confirm row && (says f c confirm row && quiet f c row)))
 
 -- what is so of every row that is met
-pub record Sound (f : State) (c : Cause) (confirm : Bool) (row : Row) : Type 0 where
+pub record Sound (f : State) (c : Cause) (confirm : Bool) (row : Option Row) : Type 0 where
   pub timers : settles f c confirm row ≡ true
   pub call : holds f c confirm row ≡ true
   pub message : says f c confirm row ≡ true

@@ -6,6 +6,7 @@ use mathlib.Core.Bool.{Bool, true, false, cond}
 use lib.ListN.{length}
 use lib.Dec.{eqb}
 use borrow.Author.Tests.{eq-eqb, ne_eqb, eqb-true}
+use Rattle.std.specs.Prelude.{Option, None}
 use Rattle.frame.specs.Number.{first_given}
 use Rattle.frame.specs.Layout.{longest_line}
 use Rattle.writer.specs.Lent.{at_front, lent_after}
@@ -17,45 +18,45 @@ use Rattle.stepping.specs.Sending.{line_sent, send_number}
 use Rattle.stepping.proofs.Stepping.{tests-parts, Taken, SentGood, number_passed, table_tests, number-of-table, number-of-tests}
 use Rattle.stepping.proofs.Stepping as stepping
 use Rattle.stepping.proofs.Answers.{by_cases, nothing_lent}
+use Rattle.stepping.specs.Answer.{Answer}
+use Rattle.stepping.specs.declared.Carried.{Carried}
 use Rattle.group_record.specs.Formed.{cleared_record, is_well_formed}
+use Rattle.group_record.specs.declared.states.Timers.{Timers}
 use Rattle.group_record.specs.declared.states.GroupRecord.{GroupRecord}
 use Rattle.group_rows.specs.Rows.{row_number, row_of}
 use Rattle.group_rows.specs.declared.Row.{Row}
-use Rattle.group_rows.specs.declared.Row.TheVariants.{Discard}
 use Rattle.group_rows.proofs.Meets.{same_row}
 use Rattle.group_call.specs.Carried.{carry_out}
 use Rattle.group_call.specs.Step.{change_too_early, number_before_sending, done_of, line_with, step_line, step_number, refused_of, moved_of, discarded, answer_met, buffer_with, step_of, step_buffer}
-use Rattle.group_call.specs.declared.carrying.Carried.{Carried}
-use Rattle.group_call.specs.declared.Stepped.{Stepped}
 use Rattle.group_call.proofs.Keeping.{fit, carried-well-formed, carried-sends-good}
 use Rattle.group_call.proofs.Discarding.{carried-nothing}
 
 -- a discard sends nothing
-discard-sends : (s : Settings) (g : GroupRecord) (i : Input) → line_with Discard s g i ≡ []
+discard-sends : (s : Settings) (g : GroupRecord) (i : Input) → line_with None s g i ≡ []
 unfolding carry_out
 discard-sends s g i = refl
 
 module _ (s : Settings) (g : GroupRecord) (i : Input) where
   -- the answer of a step that is carried out
-  abbrev pub moved : Stepped
+  abbrev pub moved : Answer GroupRecord Timers
   moved = moved_of (row_of s g i.event) (done_of s g i) (length (step_line s g i))
 
   -- the answer of a row above 0 is what it carries out
   pub answer-of-row : (row_number (row_of s g i.event) ≡ 0 → ⊥) → answer_met s g i ≡ moved
   answer-of-row f = rw (ne_eqb (row_number (row_of s g i.event)) 0 f) refl
 
-  -- so is that of whatever row is met from a well-formed record, be it Discard
+  -- so is that of whatever row is met from a well-formed record, be there none
   answer-moved : is_well_formed s g ≡ true → answer_met s g i ≡ moved
   answer-moved w = go (eqb (row_number (row_of s g i.event)) 0) refl
     where
       go : (b : Bool) → eqb (row_number (row_of s g i.event)) 0 ≡ b → cond b (discarded g) moved ≡ moved
       go false e = refl
       go true e =
-          let r = same_row (row_of s g i.event) Discard e in
+          let r = same_row (row_of s g i.event) None e in
           let d = carried-nothing s g i (fit s g w) r in
           sym (λ j. moved_of (r j) (d j) (length (line_sent (d j).sent (d j).next.media)))
 
-  -- the buffer is what the number and the line leave, be the row Discard
+  -- the buffer is what the number and the line leave, be there no row
   pub buffer_lent : (out : List ℕ) → step_buffer s g i out ≡ lent_after (step_number s g i out) (step_line s g i) out
   unfolding step_buffer
   buffer_lent out = go (eqb (row_number (row_of s g i.event)) 0) refl
@@ -64,7 +65,7 @@ module _ (s : Settings) (g : GroupRecord) (i : Input) where
           → cond b out (lent_after (step_number s g i out) (step_line s g i) out) ≡ lent_after (step_number s g i out) (step_line s g i) out
       go false e = refl
       go true e =
-          let line : step_line s g i ≡ [] = ap (λ (row : Row). line_with row s g i) (same_row (row_of s g i.event) Discard e) ∙ discard-sends s g i in
+          let line : step_line s g i ≡ [] = ap (λ (row : Option Row). line_with row s g i) (same_row (row_of s g i.event) None e) ∙ discard-sends s g i in
           sym (ap (λ (l : List ℕ). lent_after (step_number s g i out) l out) line ∙ nothing_lent (step_number s g i out) out)
 
   -- ---- what a number 0 shows
@@ -114,7 +115,7 @@ module _ (s : Settings) (g : GroupRecord) (i : Input) where
   unfolding step_of
   keeps-well-formed out h w =
       by_cases (step_number s g i out) (answer_met s g i) (λ n. refused_of n g) (λ x. is_well_formed s x.next ≡ true)
-      (λ e. ap (λ (x : Stepped). is_well_formed s x.next) (answer-moved w) ∙ carried-well-formed s g i (tests-passed (step-passed out e).0).0) (λ f. w)
+      (λ e. ap (λ (x : Answer GroupRecord Timers). is_well_formed s x.next) (answer-moved w) ∙ carried-well-formed s g i (tests-passed (step-passed out e).0).0) (λ f. w)
 
   -- ---- sends-good
 
@@ -136,13 +137,13 @@ module _ (s : Settings) (g : GroupRecord) (i : Input) where
 -- ---- a discard
 
 -- the answer by the number before sending, the row, and what is carried out
-abbrev step_from : GroupRecord → List ℕ → ℕ → Row → Carried → Stepped
+abbrev step_from : GroupRecord → List ℕ → ℕ → Option Row → Carried GroupRecord Timers → Answer GroupRecord Timers
 step_from g out n row d =
     let w = number_sending n d.sent d.next.media out in
     cond (eqb w 0) (cond (eqb (row_number row) 0) (discarded g) (moved_of row d (length (line_sent d.sent d.next.media)))) (refused_of w g)
 
 -- the answer of a step whose row is known and whose message has room, and its buffer
-pub carries : (s : Settings) (g : GroupRecord) (i : Input) (out : List ℕ) (row : Row) → number_before_sending s g i ≡ 0 → row_of s g i.event ≡ row
+pub carries : (s : Settings) (g : GroupRecord) (i : Input) (out : List ℕ) (row : Option Row) → number_before_sending s g i ≡ 0 → row_of s g i.event ≡ row
     → send_number (carry_out s g i row).sent (carry_out s g i row).next.media out ≡ 0
     → (step_of s g i out ≡ moved_of row (carry_out s g i row) (length (line_sent (carry_out s g i row).sent (carry_out s g i row).next.media)))
     × (step_buffer s g i out ≡ at_front (line_sent (carry_out s g i row).sent (carry_out s g i row).next.media) out)
@@ -154,16 +155,16 @@ carries s g i out row e r w =
     )
 
 -- an event that meets no row and is not refused changes nothing
-pub discards : (s : Settings) (g : GroupRecord) (i : Input) (out : List ℕ) → number_before_sending s g i ≡ 0 → row_of s g i.event ≡ Discard
+pub discards : (s : Settings) (g : GroupRecord) (i : Input) (out : List ℕ) → number_before_sending s g i ≡ 0 → row_of s g i.event ≡ None
     → (step_of s g i out ≡ discarded g) × (step_buffer s g i out ≡ out)
 unfolding step_of step_buffer carry_out
-discards s g i out e r = (λ j. step_from g out (e j) (r j) (carry_out s g i (r j)), ap (λ (row : Row). buffer_with row s g i out) r)
+discards s g i out e r = (λ j. step_from g out (e j) (r j) (carry_out s g i (r j)), ap (λ (row : Option Row). buffer_with row s g i out) r)
 
 -- so once the tests before the rows are passed, an event that meets no row is answered at once
 pub answered-at-once : (s : Settings) (g : GroupRecord) (i : Input) (out : List ℕ) → number_before_row s (is_well_formed s g) i ≡ 0 → row_number (row_of s g i.event) ≡ 0
     → (discarded g ≡ step_of s g i out) × (out ≡ step_buffer s g i out)
 answered-at-once s g i out e n =
-    let r = same_row (row_of s g i.event) Discard (eq-eqb (row_number (row_of s g i.event)) 0 n) in
+    let r = same_row (row_of s g i.event) None (eq-eqb (row_number (row_of s g i.event)) 0 n) in
     let passed : number_before_sending s g i ≡ 0 =
     rw (tests-parts s (is_well_formed s g) i (change_too_early s g i.event (row_of s g i.event)), eq-eqb (number_before_row s (is_well_formed s g) i) 0 e, ap (change_too_early s g i.event) r) in
     let d = discards s g i out passed r in
@@ -178,7 +179,7 @@ row-0-keeps s g i out =
     (λ x. x.row ≡ 0 → (step_of s g i out ≡ refused_of (step_number s g i out) g) × (step_buffer s g i out ≡ out))
     (λ z h.
     let row = sym (answer-told s g i).1 ∙ h in
-    let d = discards s g i out (step-passed s g i out z).0 (same_row (row_of s g i.event) Discard (eq-eqb (row_number (row_of s g i.event)) 0 row)) in
+    let d = discards s g i out (step-passed s g i out z).0 (same_row (row_of s g i.event) None (eq-eqb (row_number (row_of s g i.event)) 0 row)) in
     (d.0 ∙ ap (λ (n : ℕ). refused_of n g) (sym z), d.1)) (λ f h. step-refused s g i out f)
 
 -- ---- the cleared record

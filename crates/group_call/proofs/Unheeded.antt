@@ -5,6 +5,7 @@ use mathlib.Core.Logic.{◌⊎◌, inl, inr}
 use mathlib.Core.List.{List}
 use mathlib.Core.Bool.{true, false, not, ◌&&◌, true≢false}
 use lib.Dec.{eqb}
+use Rattle.std.specs.Prelude.{Option, None}
 use Rattle.frame.specs.declared.Media.{Media}
 use Rattle.call.specs.Settings.{settings_good}
 use Rattle.call.specs.Announced.{announced_of}
@@ -23,7 +24,6 @@ use Rattle.group_rows.specs.Causes.{group_timer_cause, cause_of, facts_of}
 use Rattle.group_rows.specs.Asking.{runs}
 use Rattle.group_rows.specs.Rows.{row_number, row_in, row_of}
 use Rattle.group_rows.specs.declared.Row.{Row}
-use Rattle.group_rows.specs.declared.Row.TheVariants.{Discard}
 use Rattle.group_rows.specs.declared.causes.Cause.{Cause}
 use Rattle.group_rows.specs.declared.causes.Facts.{Facts}
 use Rattle.group_rows.proofs.Meets.{found-is-met}
@@ -34,10 +34,10 @@ use Rattle.group_call.proofs.Keeping.{fit}
 use Rattle.group_call.proofs.Steps.{discards}
 
 -- what meets no row and is not refused is discarded
-no-row-discarded : (s : Settings) (g : GroupRecord) (i : Input) (out : List ℕ) → Taken s (is_well_formed s g) i → row_of s g i.event ≡ Discard
+no-row-discarded : (s : Settings) (g : GroupRecord) (i : Input) (out : List ℕ) → Taken s (is_well_formed s g) i → row_of s g i.event ≡ None
     → (step_of s g i out ≡ discarded g) × (step_buffer s g i out ≡ out)
 no-row-discarded s g i out t r =
-    let z = ap (λ (row : Row). eqb (row_number row) 9) r in
+    let z = ap (λ (row : Option Row). eqb (row_number row) 9) r in
     discards s g i out
     (tests-pass s (is_well_formed s g) i (change_too_early s g i.event (row_of s g i.event)) t
     (λ j. z j && not (is_later (announced_of s i.event).call g.call))) r
@@ -50,7 +50,7 @@ other-discarded s g i out t c =
     no-row-discarded s g i out t (ap (λ (d : Cause). row_in g.state d x) c ∙ sym (found-is-met g.state Cause.Other x))
 
 -- an announcement in S4 or S5 meets no row
-waiting-row : (f : State) (x : Facts) → (f ≡ State.S4) ⊎ (f ≡ State.S5) → row_in f Cause.AnnouncementHeard x ≡ Discard
+waiting-row : (f : State) (x : Facts) → (f ≡ State.S4) ⊎ (f ≡ State.S5) → row_in f Cause.AnnouncementHeard x ≡ None
 waiting-row f x (inl e) = ap (λ (h : State). row_in h Cause.AnnouncementHeard x) e ∙ sym (found-is-met State.S4 Cause.AnnouncementHeard x)
 waiting-row f x (inr e) = ap (λ (h : State). row_in h Cause.AnnouncementHeard x) e ∙ sym (found-is-met State.S5 Cause.AnnouncementHeard x)
 
@@ -64,7 +64,7 @@ waiting-discards s g i out t c w =
 -- ---- the expiry of a timer that does not run
 
 -- it meets no row
-quiet-expiry : (t : GroupTimer) (f : State) (x : Facts) → runs t f ≡ false → row_in f (group_timer_cause t) x ≡ Discard
+quiet-expiry : (t : GroupTimer) (f : State) (x : Facts) → runs t f ≡ false → row_in f (group_timer_cause t) x ≡ None
 quiet-expiry GroupTimer.Tfg2 State.S1 x h = sym (found-is-met State.S1 Cause.Tfg2Expires x)
 quiet-expiry GroupTimer.Tfg2 State.S3 x h = absurd (true≢false h)
 quiet-expiry GroupTimer.Tfg2 State.S4 x h = sym (found-is-met State.S4 Cause.Tfg2Expires x)

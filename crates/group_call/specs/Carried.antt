@@ -1,21 +1,22 @@
 -- What carrying out a row gives, by the rules for all rows. Assumes nothing.
-use Rattle.std.specs.Prelude.{ℕ, Bool, cond, not, eqb, ltb}
+use Rattle.std.specs.Prelude.{ℕ, Bool, cond, not, eqb, ltb, Option, Some, None}
 use Rattle.frame.specs.Media.{no_media}
 use Rattle.frame.specs.Frame.{no_group_call}
 use Rattle.frame.specs.declared.Media.{Media}
 use Rattle.frame.specs.declared.GroupCall.{GroupCall}
 use Rattle.frame.specs.declared.Acceptance.{Acceptance}
+use Rattle.frame.specs.declared.Message.{Message}
 use Rattle.frame.specs.declared.Message.TheVariants.{Announcement, GroupAccept}
-use Rattle.call.specs.Timing.{is_stopped, runs_after}
+unfoldable pub use Rattle.call.specs.Timing.{stopped_of, running_after}
 use Rattle.call.specs.Announced.{announced_of}
 use Rattle.call.specs.declared.Settings.{Settings}
 use Rattle.call.specs.declared.GroupTimer.{GroupTimer}
 use Rattle.call.specs.declared.Timer.{Timer}
 use Rattle.call.specs.declared.Event.{Event}
 use Rattle.call.specs.declared.Input.{Input}
-use Rattle.call.specs.declared.Send.{Send}
-use Rattle.call.specs.declared.timers.TimerFacts.{TimerFacts}
+use Rattle.call.specs.declared.timers.TimerSets.{TimerSets}
 use Rattle.call.specs.declared.Announced.{Announced}
+use Rattle.stepping.specs.declared.Carried.{Carried}
 use Rattle.group_record.specs.States.{state_number, has, set_of, no_timer, tfg2, tfg4, tfg6}
 use Rattle.group_record.specs.declared.states.State.{State}
 use Rattle.group_record.specs.declared.states.Timers.{Timers}
@@ -25,8 +26,6 @@ use Rattle.group_call.specs.Effects.{effect_of}
 use Rattle.group_call.specs.declared.effects.Hold.{Hold}
 use Rattle.group_call.specs.declared.effects.Say.{Say}
 use Rattle.group_call.specs.declared.effects.Effect.{Effect}
-use Rattle.group_call.specs.declared.carrying.Carried.{Carried}
-use Rattle.group_call.specs.declared.timers.TimerSets.{TimerSets}
 
 -- ---- the timers
 
@@ -50,25 +49,6 @@ ran_out_by (Event.Message m) = no_timer
 -- the state changes
 abbrev pub changes : State → State → Bool
 changes state to = not (eqb (state_number state) (state_number to))
-
--- what the rules ask of one timer, from the sets and from whether the state changes
-abbrev pub timer_facts : TimerSets → GroupTimer → TimerFacts
-timer_facts x t =
-    record {
-      was_running = has x.was_running t;
-      ran_out = has x.ran_out t;
-      stop_asked = has x.stop_asked t;
-      started = has x.started t;
-      state_changes = x.state_changes;
-    }
-
--- the timers that are stopped, by the rule for each
-unfoldable pub stopped_of : TimerSets → Timers
-stopped_of x = set_of (λ t. is_stopped (timer_facts x t))
-
--- the timers that run afterwards, by the rule for each
-unfoldable pub running_after : TimerSets → Timers
-running_after x = set_of (λ t. runs_after (timer_facts x t))
 
 -- ---- the call
 
@@ -117,29 +97,29 @@ abbrev pub acceptance : Settings → GroupCall → Acceptance
 acceptance s c = record { identifier = c.identifier; sender = s.own_user; call_type = c.call_type; group = c.group }
 
 -- the message has the fields of the call held afterwards; the first announcement has the user's confirm, any other confirm 0
-abbrev pub sent_of : Settings → Say → GroupCall → ℕ → Send
-sent_of s Say.Nothing call confirm = Send.Nothing
-sent_of s Say.FirstAnnouncement call confirm = Send.Message (Announcement call confirm)
-sent_of s Say.Announcement call confirm = Send.Message (Announcement call 0)
-sent_of s Say.Accept call confirm = Send.Message (GroupAccept (acceptance s call))
+abbrev pub sent_of : Settings → Option Say → GroupCall → ℕ → Option Message
+sent_of s None call confirm = None
+sent_of s (Some Say.FirstAnnouncement) call confirm = Some (Announcement call confirm)
+sent_of s (Some Say.Announcement) call confirm = Some (Announcement call 0)
+sent_of s (Some Say.Accept) call confirm = Some (GroupAccept (acceptance s call))
 
 -- ---- the whole
 
 -- what the rules ask of the timers where some run, one ran out, and a row is carried out
-abbrev pub timers_by : State → Timers → Timers → Effect → TimerSets
+abbrev pub timers_by : State → Timers → Timers → Effect → TimerSets Timers
 timers_by state was out x =
     record { was_running = was; ran_out = out; stop_asked = x.stop; started = x.start; state_changes = changes state x.to }
 
 -- the timers that it stops
 abbrev pub stopped_by : State → Timers → Timers → Effect → Timers
-stopped_by state was out x = stopped_of (timers_by state was out x)
+stopped_by state was out x = stopped_of has set_of (timers_by state was out x)
 
 -- the timers that run afterwards
 abbrev pub running_by : State → Timers → Timers → Effect → Timers
-running_by state was out x = running_after (timers_by state was out x)
+running_by state was out x = running_after has set_of (timers_by state was out x)
 
 -- the next record, what stops, what starts, what is sent
-abbrev pub carried_by : Settings → GroupRecord → Timers → Announced → Media → Effect → Carried
+abbrev pub carried_by : Settings → GroupRecord → Timers → Announced → Media → Effect → Carried GroupRecord Timers
 carried_by s g out a media x =
     record {
       next = record {
@@ -154,7 +134,7 @@ carried_by s g out a media x =
     }
 
 -- what carrying out a row gives
-unfoldable pub carry_out : Settings → GroupRecord → Input → Row → Carried
+unfoldable pub carry_out : Settings → GroupRecord → Input → Option Row → Carried GroupRecord Timers
 carry_out s g i row =
     carried_by s g (ran_out_by i.event) (announced_of s i.event) i.media
     (effect_of row g.state (eqb (announced_of s i.event).confirm 1))

@@ -3,20 +3,19 @@ use Rattle.std.specs.Prelude.{ℕ, List, [], ◌∷◌}
 use Rattle.frame.specs.declared.Media.{Media}
 use Rattle.frame.specs.declared.GroupCall.{GroupCall}
 use Rattle.frame.specs.declared.Message.TheVariants.{Announcement}
-use Rattle.reader.specs.Line.{read_line}
-use Rattle.reader.specs.declared.Read.{Read}
-use Rattle.reader.specs.declared.Read.TheVariants.{Readable, Refused}
+use Rattle.reader.specs.Line.{Read, Readable, Refused, read_line}
 use Rattle.call.specs.declared.Settings.{Settings}
 use Rattle.call.specs.declared.Verdicts.{Verdicts}
 use Rattle.call.specs.declared.GroupTimer.{GroupTimer}
 use Rattle.call.specs.declared.Timer.{Timer}
 use Rattle.call.specs.declared.Event.{Event}
 use Rattle.call.specs.declared.Input.{Input}
+use Rattle.stepping.specs.Answer.{Answer}
 use Rattle.group_record.specs.States.{tfg2_and6}
 use Rattle.group_record.specs.declared.states.State.{State}
+use Rattle.group_record.specs.declared.states.Timers.{Timers}
 use Rattle.group_record.specs.declared.states.GroupRecord.{GroupRecord}
 use Rattle.group_call.specs.Step.{refused_of, step_of, step_buffer}
-use Rattle.group_call.specs.declared.Stepped.{Stepped}
 
 -- ---- inputs
 
@@ -49,19 +48,19 @@ pub record HeardLine : Type 0 where
 
 -- a build of the step: for all settings, records, inputs and lent buffers an answer, and the buffer after it
 abbrev pub Build : Type 0
-Build = Settings → GroupRecord → Input → List ℕ → Stepped × List ℕ
+Build = Settings → GroupRecord → Input → List ℕ → Answer GroupRecord Timers × List ℕ
 
 -- the build that the contract of the step allows
 abbrev pub promised : Build
 promised s g i out = (step_of s g i out, step_buffer s g i out)
 
 -- the answer to what was read: the step's to a message; a line that was refused has its number, and changes nothing
-abbrev pub answer_to : Build → Settings → GroupRecord → Read → Media → Verdicts → List ℕ → Stepped × List ℕ
+abbrev pub answer_to : Build → Settings → GroupRecord → Read → Media → Verdicts → List ℕ → Answer GroupRecord Timers × List ℕ
 answer_to b s g (Readable m) media v out = b s g (input_of (Event.Message m) media v) out
 answer_to b s g (Refused n) media v out = (refused_of n g, out)
 
 -- the answer to a line that is heard: it is read, and what was read is answered
-abbrev pub answer_hearing : Build → Settings → GroupRecord → HeardLine → Stepped × List ℕ
+abbrev pub answer_hearing : Build → Settings → GroupRecord → HeardLine → Answer GroupRecord Timers × List ℕ
 answer_hearing b s g x = answer_to b s g (read_line x.line).read (read_line x.line).media x.verdicts x.lent
 
 -- the record after a line

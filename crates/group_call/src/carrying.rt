@@ -1,15 +1,29 @@
 // What carrying out a row of the group call machine gives, by the rules for all rows.
-ghost use Rattle.std.specs.Prelude.{◌≡◌};
+ghost use Rattle.std.specs.Prelude.{◌≡◌, Some};
 ghost use Rattle.group_call.specs.Carried.{carry_out, is_later, changed_by, later_change, held_of, media_held};
-ghost use Rattle.group_call.specs.Carried.{acceptance, sent_of};
+ghost use Rattle.group_call.specs.Carried.{acceptance, sent_of, ran_out_by};
 
 use crate::effects::{Hold, Say, effect_of};
-use crate::timers;
-use crate::timers::TimerSets;
-use call::{Input, Send, Settings, announced_of};
+use call::timers::TimerSets;
+use call::{Event, GroupTimer, Input, Settings, Timer, announced_of};
 use frame::{Acceptance, GroupCall, Media, Message};
 use group_record::states::{GroupRecord, Timers};
 use group_rows::Row;
+use stepping::Carried;
+
+// ---- the timers
+
+// The timer that just ran out.
+fn ran_out(event: Event) -> Timers
+    ensures { result ≡ ran_out_by event }
+{
+    match event {
+        Event::Expiry(Timer::Group(GroupTimer::Tfg2)) => Timers::TFG2,
+        Event::Expiry(Timer::Group(GroupTimer::Tfg4)) => Timers::TFG4,
+        Event::Expiry(Timer::Group(GroupTimer::Tfg6)) => Timers::TFG6,
+        _ => Timers::NONE,
+    }
+}
 
 // ---- the call
 
@@ -25,14 +39,10 @@ fn changed_by(stored: GroupCall, brought: GroupCall) -> GroupCall
     ensures { result ≡ changed_by stored brought }
 {
     GroupCall {
-        identifier: stored.identifier,
-        group: stored.group,
         call_type: brought.call_type,
-        refresh: stored.refresh,
-        originator: stored.originator,
-        start: stored.start,
         last_change: brought.last_change,
         last_changer: brought.last_changer,
+        ..stored
     }
 }
 
@@ -47,29 +57,29 @@ fn later_change(stored: GroupCall, brought: GroupCall) -> GroupCall
     }
 }
 
-// The call that the record holds afterwards, all but its media.
-fn held(hold: Hold, stored: GroupCall, brought: GroupCall) -> GroupCall
-    ensures { result ≡ held_of hold stored brought }
-{
-    match hold {
-        Hold::Keep => stored,
-        Hold::Announced => brought,
-        Hold::Change => changed_by(stored, brought),
-        Hold::LaterChange => later_change(stored, brought),
-        Hold::Clear => GroupCall::NONE,
+impl Hold {
+    // The call that the record holds afterwards, all but its media.
+    fn call(self, stored: GroupCall, brought: GroupCall) -> GroupCall
+        ensures { result ≡ held_of self stored brought }
+    {
+        match self {
+            Hold::Keep => stored,
+            Hold::Announced => brought,
+            Hold::Change => changed_by(stored, brought),
+            Hold::LaterChange => later_change(stored, brought),
+            Hold::Clear => GroupCall::NONE,
+        }
     }
-}
 
-// Its media.
-fn media_held(hold: Hold, stored: Media, brought: Media) -> Media
-    ensures { result ≡ media_held hold stored brought }
-{
-    match hold {
-        Hold::Keep => stored,
-        Hold::Announced => brought,
-        Hold::Change => stored,
-        Hold::LaterChange => stored,
-        Hold::Clear => Media::NONE,
+    // Its media.
+    fn media(self, stored: Media, brought: Media) -> Media
+        ensures { result ≡ media_held self stored brought }
+    {
+        match self {
+            Hold::Keep | Hold::Change | Hold::LaterChange => stored,
+            Hold::Announced => brought,
+            Hold::Clear => Media::NONE,
+        }
     }
 }
 
@@ -88,66 +98,48 @@ fn accept_of(settings: Settings, held: GroupCall) -> Acceptance
 }
 
 // What is sent, from the call held afterwards; the first announcement has the user's confirm.
-fn sent(settings: Settings, say: Say, held: GroupCall, confirm: u8) -> Send
+fn sent(settings: Settings, say: Option<Say>, held: GroupCall, confirm: u8) -> Option<Message>
     ensures { result ≡ sent_of settings say held confirm }
 {
-    match say {
-        Say::Nothing => Send::Nothing,
-        Say::FirstAnnouncement => Send::Message(Message::Announcement(held, confirm)),
-        Say::Announcement => Send::Message(Message::Announcement(held, 0)),
-        Say::Accept => Send::Message(Message::GroupAccept(accept_of(settings, held))),
-    }
+    let message = match say? {
+        Say::FirstAnnouncement => Message::Announcement(held, confirm),
+        Say::Announcement => Message::Announcement(held, 0),
+        Say::Accept => Message::GroupAccept(accept_of(settings, held)),
+    };
+    Some(message)
 }
 
 // ---- the whole
 
-// What carrying out a row gives: the next record, the timers to stop, then those to start, and what is sent.
-#[derive(Clone, Copy)]
-pub struct Carried {
-    pub next: GroupRecord,
-    pub stop: Timers,
-    pub start: Timers,
-    pub sent: Send,
-}
-
 // Carries out a row.
 #[tactic(auto, unfolding(crate::specs::Carried::carry_out))]
-pub(crate) fn carry_out(settings: Settings, stored: GroupRecord, input: Input, row: Row) -> Carried
-    ensures { result ≡ carry_out settings stored input row }
+pub(crate) fn carry_out(
+    settings: Settings,
+    stored: GroupRecord,
+    input: Input,
+    row: Row,
+) -> Carried<GroupRecord, Timers>
+    ensures { result ≡ carry_out settings stored input (Some row) }
 {
-    let state = stored.state;
-    let was = stored.running;
-    let call = stored.call;
-    let stored_media = stored.media;
-    let event = input.event;
-    let media = input.media;
-    let announced = announced_of(settings, event);
-    let brought = announced.call;
-    let confirm = announced.confirm;
-    let effect = effect_of(row, state, confirm == 1);
-    let to = effect.to;
-    let start = effect.start;
-    let asked = effect.stop;
-    let hold = effect.hold;
-    let say = effect.say;
-    let out = timers::ran_out(event);
+    let announced = announced_of(settings, input.event);
+    let effect = effect_of(row, stored.state, announced.confirm == 1);
     let sets = TimerSets {
-        was_running: was,
-        ran_out: out,
-        stop_asked: asked,
-        started: start,
-        state_changes: timers::state_changes(state, to),
+        was_running: stored.running,
+        ran_out: ran_out(input.event),
+        stop_asked: effect.stop,
+        started: effect.start,
+        state_changes: stored.state != effect.to,
     };
-    let after = held(hold, call, brought);
+    let call = effect.hold.call(stored.call, announced.call);
     Carried {
         next: GroupRecord {
-            state: to,
+            state: effect.to,
             running: sets.running_after(),
-            call: after,
-            media: media_held(hold, stored_media, media),
+            call,
+            media: effect.hold.media(stored.media, input.media),
         },
         stop: sets.stopped(),
-        start: start,
-        sent: sent(settings, say, after, confirm),
+        start: effect.start,
+        sent: sent(settings, effect.say, call, announced.confirm),
     }
 }

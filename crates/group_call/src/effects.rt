@@ -1,5 +1,5 @@
 // What each row of the group call machine does.
-ghost use Rattle.std.specs.Prelude.{◌≡◌};
+ghost use Rattle.std.specs.Prelude.{◌≡◌, Some};
 ghost use Rattle.group_call.specs.Effects.{enters as enters_of, stays as stays_of, starts as starts_of};
 ghost use Rattle.group_call.specs.Effects.{restarts as restarts_of, waits, confirms, effect_of};
 
@@ -21,10 +21,9 @@ pub enum Hold {
     Clear,
 }
 
-// What a row sends.
+// What a row sends, if it sends anything.
 #[derive(Clone, Copy)]
 pub enum Say {
-    Nothing,
     // An announcement with the user's confirm.
     FirstAnnouncement,
     // An announcement with confirm 0.
@@ -42,47 +41,38 @@ pub struct Effect {
     // The timers that it starts.
     pub start: Timers,
     pub hold: Hold,
-    pub say: Say,
+    pub say: Option<Say>,
 }
 
 impl Effect {
     // A row that enters a state.
-    fn enters(to: State, start: Timers, hold: Hold, say: Say) -> Effect
+    fn enters(to: State, start: Timers, hold: Hold, say: Option<Say>) -> Effect
         ensures { result ≡ enters_of to start hold say }
     {
         Effect {
-            to: to,
-            stop: Timers::NONE,
-            start: start,
-            hold: hold,
-            say: say,
+            start,
+            ..Effect::stays(to, hold, say)
         }
     }
 
     // A row that leaves state and timers as they are.
-    fn stays(state: State, hold: Hold, say: Say) -> Effect
+    fn stays(state: State, hold: Hold, say: Option<Say>) -> Effect
         ensures { result ≡ stays_of state hold say }
     {
         Effect {
             to: state,
             stop: Timers::NONE,
             start: Timers::NONE,
-            hold: hold,
-            say: say,
+            hold,
+            say,
         }
     }
 
     // A row that starts a timer while state and call stay.
-    fn starts(state: State, start: Timers, say: Say) -> Effect
+    fn starts(state: State, start: Timers, say: Option<Say>) -> Effect
         ensures { result ≡ starts_of state start say }
     {
-        Effect {
-            to: state,
-            stop: Timers::NONE,
-            start: start,
-            hold: Hold::Keep,
-            say: say,
-        }
+        Effect::enters(state, start, Hold::Keep, say)
     }
 
     // A row that stops timers and starts them again while the state stays.
@@ -90,11 +80,8 @@ impl Effect {
         ensures { result ≡ restarts_of state timers hold }
     {
         Effect {
-            to: state,
             stop: timers,
-            start: timers,
-            hold: hold,
-            say: Say::Nothing,
+            ..Effect::enters(state, timers, hold, None)
         }
     }
 }
@@ -106,36 +93,33 @@ fn waiting(confirm: bool) -> State
     if confirm { State::S5 } else { State::S4 }
 }
 
-impl Say {
-    // An accept where the announcement asks for confirm, else nothing.
-    fn confirming(confirm: bool) -> Say
-        ensures { result ≡ confirms confirm }
-    {
-        if confirm { Say::Accept } else { Say::Nothing }
-    }
+// An accept where the announcement asks for confirm, else nothing.
+fn confirming(confirm: bool) -> Option<Say>
+    ensures { result ≡ confirms confirm }
+{
+    confirm.then_some(Say::Accept)
 }
 
 // What a row does in a state: the table of the rows; confirm is whether the announcement asks for it.
 pub(crate) fn effect_of(row: Row, state: State, confirm: bool) -> Effect
-    ensures { result ≡ effect_of row state confirm }
+    ensures { result ≡ effect_of (Some row) state confirm }
 {
     let both = Timers::TFG2_TFG6;
     match row {
-        Row::Discard => Effect::stays(state, Hold::Keep, Say::Nothing),
-        Row::G1 => Effect::enters(State::S3, both, Hold::Announced, Say::FirstAnnouncement),
-        Row::G2 => Effect::starts(state, Timers::TFG2, Say::Announcement),
-        Row::G3 => Effect::enters(
-            waiting(confirm),
-            Timers::TFG4,
+        Row::G1 => Effect::enters(
+            State::S3,
+            both,
             Hold::Announced,
-            Say::Nothing,
+            Some(Say::FirstAnnouncement),
         ),
-        Row::G4 => Effect::enters(State::S3, both, Hold::Announced, Say::confirming(confirm)),
-        Row::G5 => Effect::enters(State::S3, both, Hold::Keep, Say::Accept),
-        Row::G6 => Effect::enters(State::S3, both, Hold::Keep, Say::Nothing),
-        Row::G7 => Effect::enters(State::S1, Timers::NONE, Hold::Clear, Say::Nothing),
-        Row::G8 => Effect::enters(State::S1, Timers::NONE, Hold::Clear, Say::Nothing),
-        Row::G9 => Effect::stays(state, Hold::Change, Say::Announcement),
+        Row::G2 => Effect::starts(state, Timers::TFG2, Some(Say::Announcement)),
+        Row::G3 => Effect::enters(waiting(confirm), Timers::TFG4, Hold::Announced, None),
+        Row::G4 => Effect::enters(State::S3, both, Hold::Announced, confirming(confirm)),
+        Row::G5 => Effect::enters(State::S3, both, Hold::Keep, Some(Say::Accept)),
+        Row::G6 => Effect::enters(State::S3, both, Hold::Keep, None),
+        Row::G7 => Effect::enters(State::S1, Timers::NONE, Hold::Clear, None),
+        Row::G8 => Effect::enters(State::S1, Timers::NONE, Hold::Clear, None),
+        Row::G9 => Effect::stays(state, Hold::Change, Some(Say::Announcement)),
         Row::G10 => Effect::restarts(state, both, Hold::Announced),
         Row::G11 => Effect::restarts(state, Timers::TFG2, Hold::LaterChange),
     }

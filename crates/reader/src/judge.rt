@@ -12,7 +12,8 @@ use frame::Kind;
 use frame::range::Range;
 
 impl DigitLine<'_> {
-    // Whether a number of one byte is not 0: one of its digits is not `0`.
+    // Whether a number of one byte is not 0: one of its digits is not `0`. This, two_fits and four_fits are compared at
+    // once as they stand; with the width as a parameter the law of two halves would have to go by cases of it.
     fn one_fits(&self, at: usize) -> bool
         requires { at + 2 < length self.now.bytes.now }
         ensures { result ≡ never_zero one (number_at one self.now.bytes.now at) }

@@ -10,8 +10,8 @@ use Rattle.frame.specs.declared.GroupCall.{GroupCall}
 use Rattle.frame.specs.declared.Message.{Message}
 use Rattle.frame.specs.declared.Message.TheVariants.{SetupRequest, Ringing, Accept, Reject, Release, ReleaseAck, AcceptAck, Announcement, GroupAccept}
 use Rattle.reader.specs.Line.{number_of, line_number, line_message}
-use Rattle.reader.specs.declared.Read.{Read}
-use Rattle.reader.specs.declared.Read.TheVariants.{Readable, Refused}
+use Rattle.reader.specs.Line.{Read}
+use Rattle.reader.specs.Line.{Readable, Refused}
 use Rattle.reader.proofs.OnlyLine.{number_read}
 use Rattle.chooser.specs.Choice.{announced_by, announced_in, line_announced, calls_choosable, choosable, lines_choosable}
 use Rattle.chooser.specs.NoChoice.{Announces, NoAnnouncement, Apart, NoChoice}

@@ -6,8 +6,8 @@ use Rattle.frame.specs.declared.GroupCall.{GroupCall}
 use Rattle.frame.specs.declared.Message.{Message}
 use Rattle.frame.specs.declared.Message.TheVariants.{SetupRequest, Ringing, Accept, Reject, Release, ReleaseAck, AcceptAck, Announcement, GroupAccept}
 use Rattle.reader.specs.Line.{line_number, line_message}
-use Rattle.reader.specs.declared.Read.{Read}
-use Rattle.reader.specs.declared.Read.TheVariants.{Readable, Refused}
+use Rattle.reader.specs.Line.{Read}
+use Rattle.reader.specs.Line.{Readable, Refused}
 use Rattle.group_order.specs.Order.{is_better}
 use Rattle.chooser.specs.declared.LineCall.{LineCall}
 use Rattle.chooser.specs.declared.LineCall.TheVariants.{Call, Nothing}

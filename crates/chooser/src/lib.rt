@@ -5,8 +5,7 @@ ghost use Rattle.std.specs.Prelude.{◌≡◌};
 ghost use Rattle.chooser.specs.Choice.{announced_by, line_announced, asked_of, asked_of_line};
 ghost use Rattle.chooser.specs.Choice.{calls_choice, choice_of, choice_number, place, place_of};
 
-use frame::{GroupCall, Message};
-use reader::Read;
+use frame::{GroupCall, Message, Refusal};
 
 // What a line announces: a group call, or nothing.
 #[derive(Clone, Copy)]
@@ -53,11 +52,9 @@ fn announced_by(message: Message) -> LineCall
 fn line_announced(line: &[u8]) -> LineCall
     ensures { result ≡ asked_of_line (line_announced line.now) }
 {
-    let reading = reader::read_line(&line[..]);
-    let read = reading.read;
-    match read {
-        Read::Readable(message) => announced_by(message),
-        Read::Refused(_) => LineCall::Nothing,
+    match reader::read_line(&line[..]) {
+        Ok(frame) => announced_by(frame.message),
+        Err(_) => LineCall::Nothing,
     }
 }
 
@@ -98,11 +95,11 @@ pub fn choice(first: &[u8], second: &[u8]) -> u8
 pub fn choose_number(first: &[u8], second: &[u8]) -> u8
     ensures { result ≡ choice_number first.now second.now }
 {
-    let number = reader::check_line(first);
+    let number = Refusal::number_of(&reader::check_line(first));
     if number != 0 {
         return number;
     }
-    let next = reader::check_line(second);
+    let next = Refusal::number_of(&reader::check_line(second));
     if next != 0 {
         return next;
     }

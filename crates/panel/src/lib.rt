@@ -6,11 +6,13 @@ ghost use Rattle.std.specs.Prelude.{◌≡◌};
 ghost use Rattle.reader.specs.Line.{line_number};
 ghost use Rattle.chooser.specs.Choice.{choice_of, choice_number};
 
+use frame::Refusal;
+
 // The number of a line: 0 where it is readable, else the first of 1 to 5 that is given.
 pub fn panel_line_check(line: &[u8]) -> u32
     ensures { result ≡ line_number line.now }
 {
-    reader::check_line(line) as u32
+    Refusal::number_of(&reader::check_line(line)) as u32
 }
 
 // Which of two announcement lines is chosen: 1 the first, 2 the second, 0 neither, which is a refusal.

@@ -11,9 +11,10 @@ fn answer_length(line: &[u8]) -> usize
     ensures { result ≡ length (answer_to line.now) }
 {
     if reader::check_line(line) == 0 {
-        return line.len();
+        line.len()
+    } else {
+        3
     }
-    3
 }
 
 // Writes the answer to a line at the front of out, and tells its length.

@@ -14,8 +14,9 @@ use Rattle.private_record.specs.Formed.{is_well_formed}
 use Rattle.private_record.specs.declared.states.PrivateRecord.{PrivateRecord}
 use Rattle.private_rows.specs.Rows.{row_number, row_of}
 use Rattle.private_call.specs.Step.{identifier_taken, done_of, step_line, refused_of, moved_of, answer_met, step_of, step_buffer}
-use Rattle.private_call.specs.declared.Stepped.{Stepped}
+use Rattle.stepping.specs.Answer.{Answer}
 use Rattle.private_call.proofs.Steps.{number-in-parts, buffer_lent, answer-of-row}
+use Rattle.private_record.specs.declared.states.Timers.{Timers}
 
 module _ (s : Settings) (p : PrivateRecord) (i : Input) (out : List ℕ) where
   -- the number before a row is looked for
@@ -35,11 +36,11 @@ module _ (s : Settings) (p : PrivateRecord) (i : Input) (out : List ℕ) where
   left = send_buffer (done_of s p i).sent (done_of s p i).next.call.media out
 
   -- an answer and a buffer are those of the step
-  abbrev pub Answers : Stepped → List ℕ → Type 0
+  abbrev pub Answers : Answer PrivateRecord Timers → List ℕ → Type 0
   Answers r after = (r ≡ step_of s p i out) × (after ≡ step_buffer s p i out)
 
   -- what the number, the row's answer and its line give is the step's
-  as_step : {r : Stepped} {after : List ℕ} → answers.Answers s (is_well_formed s p) i taken (done_of s p i).sent (done_of s p i).next.call.media out (λ n. refused_of n p) (answer_met s p i) r after → Answers r after
+  as_step : {r : Answer PrivateRecord Timers} {after : List ℕ} → answers.Answers s (is_well_formed s p) i taken (done_of s p i).sent (done_of s p i).next.call.media out (λ n. refused_of n p) (answer_met s p i) r after → Answers r after
   unfolding step_of
   as_step x =
       let n = sym (number-in-parts s p i out) in (

@@ -4,6 +4,7 @@ use mathlib.Core.Path.{◌≡◌, refl, sym, ◌∙◌, subst}
 use mathlib.Core.List.{List}
 use mathlib.Core.Bool.{Bool, true, false, not, ◌&&◌, ◌||◌}
 use lib.Dec.{eqb}
+use Rattle.std.specs.Prelude.{Option}
 use Rattle.call.specs.Timing.{is_stopped, runs_after}
 use Rattle.call.specs.declared.Settings.{Settings}
 use Rattle.call.specs.declared.PrivateTimer.{PrivateTimer}
@@ -20,8 +21,9 @@ use Rattle.private_call.specs.Step.{step_number, step_of}
 use Rattle.private_call.specs.NoReply.{Counter, cfp1, cfp3, cfp4, count_in, timer_of}
 use Rattle.private_call.specs.declared.effects.Effect.{Effect}
 use Rattle.private_call.specs.declared.timers.TimerSets.{TimerSets}
-use Rattle.private_call.specs.declared.Stepped.{Stepped}
+use Rattle.stepping.specs.Answer.{Answer}
 use Rattle.private_call.proofs.Steps.{step-done}
+use Rattle.private_record.specs.declared.states.Timers.{Timers}
 
 -- whether a timer is stopped
 stopped-one : (x : TimerSets) (t : PrivateTimer) → has (stopped_of x) t ≡ is_stopped (timer_facts x t)
@@ -33,7 +35,7 @@ running-one : (x : TimerSets) (t : PrivateTimer) → has (running_after x) t ≡
 unfolding running_after
 running-one x = has-set (λ t. runs_after (timer_facts x t))
 
-module _ (s : Settings) (p : PrivateRecord) (i : Input) (row : Row) where
+module _ (s : Settings) (p : PrivateRecord) (i : Input) (row : Option Row) where
   -- what the row does
   abbrev effect : Effect
   effect = effect_of row p.state
@@ -87,30 +89,30 @@ module _ (s : Settings) (p : PrivateRecord) (i : Input) (out : List ℕ) (e : st
   pub timers-agree : (t : PrivateTimer) → has (step_of s p i out).next.running t
       ≡ (has (step_of s p i out).start t || (has p.running t && (not (has (step_of s p i out).stop t) && not (has (ran_out_by i.event) t))))
   timers-agree t =
-      subst (λ (r : Stepped). has r.next.running t ≡ (has r.start t || (has p.running t && (not (has r.stop t) && not (has (ran_out_by i.event) t)))))
+      subst (λ (r : Answer PrivateRecord Timers). has r.next.running t ≡ (has r.start t || (has p.running t && (not (has r.stop t) && not (has (ran_out_by i.event) t)))))
       (sym (step-done s p i out e)) (agree s p i (row_of s p i) t)
 
   -- leaving a state stops each timer that runs there, if the row does not start it anew
   pub step-change-stops : (t : PrivateTimer) → changes p.state (step_of s p i out).next.state ≡ true → has p.running t ≡ true
       → has (step_of s p i out).start t ≡ false → has (ran_out_by i.event) t ≡ false → has (step_of s p i out).stop t ≡ true
   step-change-stops t =
-      subst (λ (r : Stepped). changes p.state r.next.state ≡ true → has p.running t ≡ true → has r.start t ≡ false
+      subst (λ (r : Answer PrivateRecord Timers). changes p.state r.next.state ≡ true → has p.running t ≡ true → has r.start t ≡ false
       → has (ran_out_by i.event) t ≡ false → has r.stop t ≡ true) (sym (step-done s p i out e)) (change-stops s p i (row_of s p i) t)
 
   -- no step stops the timer whose expiry it is about
   pub step-spares-ran-out : (t : PrivateTimer) → has (ran_out_by i.event) t ≡ true → has (step_of s p i out).stop t ≡ false
   step-spares-ran-out t =
-      subst (λ (r : Stepped). has (ran_out_by i.event) t ≡ true → has r.stop t ≡ false) (sym (step-done s p i out e)) (ran-out-never-stopped s p i (row_of s p i) t)
+      subst (λ (r : Answer PrivateRecord Timers). has (ran_out_by i.event) t ≡ true → has r.stop t ≡ false) (sym (step-done s p i out e)) (ran-out-never-stopped s p i (row_of s p i) t)
 
   -- a counter without a running timer is 0
   pub step-counter-rests : (k : Counter) → has (step_of s p i out).next.running (timer_of k) ≡ false → count_in k (step_of s p i out).next.counters ≡ 0
   step-counter-rests k =
-      subst (λ (r : Stepped). has r.next.running (timer_of k) ≡ false → count_in k r.next.counters ≡ 0) (sym (step-done s p i out e))
+      subst (λ (r : Answer PrivateRecord Timers). has r.next.running (timer_of k) ≡ false → count_in k r.next.counters ≡ 0) (sym (step-done s p i out e))
       (counter-rests s p i (row_of s p i) k)
 
   -- whoever comes to P1 starts TFP7
   pub step-entering-starts : changes p.state (step_of s p i out).next.state ≡ true → eqb (state_number (step_of s p i out).next.state) 1 ≡ true
       → has (step_of s p i out).start PrivateTimer.Tfp7 ≡ true
   step-entering-starts =
-      subst (λ (r : Stepped). changes p.state r.next.state ≡ true → eqb (state_number r.next.state) 1 ≡ true → has r.start PrivateTimer.Tfp7 ≡ true)
+      subst (λ (r : Answer PrivateRecord Timers). changes p.state r.next.state ≡ true → eqb (state_number r.next.state) 1 ≡ true → has r.start PrivateTimer.Tfp7 ≡ true)
       (sym (step-done s p i out e)) (entering-starts s p i (row_of s p i))

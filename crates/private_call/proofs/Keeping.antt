@@ -2,6 +2,7 @@
 use mathlib.Core.Path.{◌≡◌, refl}
 use mathlib.Core.Bool.{Bool, true, false, cond, false≢true}
 use borrow.Author.Tests.{not-true}
+use Rattle.std.specs.Prelude.{Option}
 use Rattle.frame.specs.Digits.{four}
 use Rattle.frame.specs.Range.{never_zero, reason_good}
 use Rattle.frame.specs.Frame.{parties_good, in_range}
@@ -78,17 +79,17 @@ held_one s state to Hold.Clear c call r media m b g h = absurd (false≢true h)
 -- ---- the row that is met, carried out
 
 -- what is sound of a phase is so of a record in that phase
-timers-at : {f : Phase} {c : Cause} (row : Row) {state : State} {was out : Timers} → state ≡ state_of f → was ≡ running_of f → out ≡ out_of c
+timers-at : {f : Phase} {c : Cause} (row : Option Row) {state : State} {was out : Timers} → state ≡ state_of f → was ≡ running_of f → out ≡ out_of c
     → Sound f c row → running_good (effect_of row state).to (running_by state was out (effect_of row state)) ≡ true
 timers-at row a b d x = rw (a, b, d) x.timers
 
 -- its call
-call_at : {f : Phase} {c : Cause} (row : Row) {state : State} → state ≡ state_of f → Sound f c row
+call_at : {f : Phase} {c : Cause} (row : Option Row) {state : State} → state ≡ state_of f → Sound f c row
     → may_hold c state (effect_of row state).to (effect_of row state).hold ≡ true
 call_at row a x = rw a x.call
 
 -- its message
-message-at : {f : Phase} {c : Cause} (row : Row) {state : State} → state ≡ state_of f → Sound f c row
+message-at : {f : Phase} {c : Cause} (row : Option Row) {state : State} → state ≡ state_of f → Sound f c row
     → may_say c (effect_of row state).to (effect_of row state).hold (effect_of row state).say ≡ true
 message-at row a x = rw a x.message
 

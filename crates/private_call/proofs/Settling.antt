@@ -2,6 +2,7 @@
 use mathlib.Core.Path.{◌≡◌, refl}
 use mathlib.Core.Bool.{Bool, true, false, not, ◌&&◌, ◌||◌}
 use lib.Dec.{eqb}
+use Rattle.std.specs.Prelude.{Option}
 use Rattle.frame.proofs.Laws.{and_split}
 use Rattle.call.proofs.Laws.{both_bools}
 use Rattle.private_record.specs.Phases.{state_number, has, set_of, same_timers, state_of, running_of}
@@ -24,7 +25,7 @@ use Rattle.private_call.proofs.Brought.{out_of, brings_call, brings_media}
 -- ---- the timers
 
 -- the timers that run afterwards are those of the table
-abbrev pub settles : Phase → Cause → Row → Bool
+abbrev pub settles : Phase → Cause → Option Row → Bool
 settles f c row =
     running_good (effect_of row (state_of f)).to (running_by (state_of f) (running_of f) (out_of c) (effect_of row (state_of f)))
 
@@ -50,7 +51,7 @@ may_hold c state to Hold.Media = brings_media c && (not (start_stop state) && ma
 may_hold c state to Hold.Clear = start_stop to
 
 -- by the row
-abbrev pub holds : Phase → Cause → Row → Bool
+abbrev pub holds : Phase → Cause → Option Row → Bool
 holds f c row = may_hold c (state_of f) (effect_of row (state_of f)).to (effect_of row (state_of f)).hold
 
 -- ---- the message
@@ -75,7 +76,7 @@ may_say c to hold (Say.Reject reason) = holds_one to hold
 may_say c to hold Say.RejectOther = brings_call c
 
 -- by the row
-abbrev pub says : Phase → Cause → Row → Bool
+abbrev pub says : Phase → Cause → Option Row → Bool
 says f c row = may_say c (effect_of row (state_of f)).to (effect_of row (state_of f)).hold (effect_of row (state_of f)).say
 
 -- ---- a discard
@@ -85,17 +86,17 @@ abbrev pub less : Timers → Timers → Timers
 less was out = set_of (λ t. has was t && not (has out t))
 
 -- where no row is met no running timer ran out
-abbrev pub quiet : Phase → Cause → Row → Bool
+abbrev pub quiet : Phase → Cause → Option Row → Bool
 quiet f c row = not (eqb (row_number row) 0) || same_timers (less (running_of f) (out_of c)) (running_of f)
 
 -- ---- the test
 
 -- all four
-abbrev sound : Phase → Cause → Row → Bool
+abbrev sound : Phase → Cause → Option Row → Bool
 sound f c row = settles f c row && (holds f c row && (says f c row && quiet f c row))
 
 -- what is so of every row that is met
-pub record Sound (f : Phase) (c : Cause) (row : Row) : Type 0 where
+pub record Sound (f : Phase) (c : Cause) (row : Option Row) : Type 0 where
   pub timers : settles f c row ≡ true
   pub call : holds f c row ≡ true
   pub message : says f c row ≡ true

@@ -1,5 +1,5 @@
 -- What carrying out a row gives, by the rules for all rows. Assumes nothing.
-use Rattle.std.specs.Prelude.{ℕ, ◌+◌, Bool, cond, not, ◌&&◌, ◌||◌, eqb, ltb}
+use Rattle.std.specs.Prelude.{ℕ, ◌+◌, Bool, cond, not, ◌&&◌, ◌||◌, eqb, ltb, Option, Some, None}
 use Rattle.frame.specs.declared.Media.{Media}
 use Rattle.frame.specs.declared.Parties.{Parties}
 use Rattle.frame.specs.declared.Message.TheVariants.{Ringing, Accept, Reject, Release, ReleaseAck, AcceptAck}
@@ -13,7 +13,7 @@ use Rattle.call.specs.declared.Timer.{Timer}
 use Rattle.call.specs.declared.Event.{Event}
 use Rattle.call.specs.declared.Input.{Input}
 use Rattle.call.specs.declared.Request.{Request}
-use Rattle.call.specs.declared.Send.{Send}
+use Rattle.frame.specs.declared.Message.{Message}
 use Rattle.call.specs.declared.timers.TimerFacts.{TimerFacts}
 use Rattle.private_record.specs.Phases.{state_number, has, set_of, no_timer, tfp1, tfp2, tfp3, tfp4, tfp5, tfp7}
 use Rattle.private_record.specs.Formed.{no_call, call_request}
@@ -27,7 +27,7 @@ use Rattle.private_call.specs.declared.effects.Hold.{Hold}
 use Rattle.private_call.specs.declared.effects.Reason.{Reason}
 use Rattle.private_call.specs.declared.effects.Say.{Say}
 use Rattle.private_call.specs.declared.effects.Effect.{Effect}
-use Rattle.private_call.specs.declared.carrying.Carried.{Carried}
+use Rattle.stepping.specs.declared.Carried.{Carried}
 use Rattle.private_call.specs.declared.timers.TimerSets.{TimerSets}
 use Rattle.private_call.specs.declared.carrying.CounterFacts.{CounterFacts}
 
@@ -140,16 +140,16 @@ abbrev pub reason_or : Settings → Reason → ℕ
 reason_or s reason = cond (restricted s) (reason_number Reason.Failed) (reason_number reason)
 
 -- the message has the fields of the call held afterwards; only where another call is refused, those of the request
-abbrev pub sent_of : Settings → Say → PrivateCall → Parties → Send
-sent_of s Say.Nothing call other = Send.Nothing
-sent_of s Say.SetupRequest call other = Send.Message (as_message (call_request call))
-sent_of s Say.Ringing call other = Send.Message (Ringing call.parties)
-sent_of s Say.Accept call other = Send.Message (Accept call.parties)
-sent_of s Say.Release call other = Send.Message (Release call.parties)
-sent_of s Say.ReleaseAck call other = Send.Message (ReleaseAck call.parties)
-sent_of s Say.AcceptAck call other = Send.Message (AcceptAck call.parties)
-sent_of s (Say.Reject reason) call other = Send.Message (Reject call.parties (reason_or s reason))
-sent_of s Say.RejectOther call other = Send.Message (Reject other (reason_or s Reason.Busy))
+abbrev pub sent_of : Settings → Say → PrivateCall → Parties → Option Message
+sent_of s Say.Nothing call other = None
+sent_of s Say.SetupRequest call other = Some (as_message (call_request call))
+sent_of s Say.Ringing call other = Some (Ringing call.parties)
+sent_of s Say.Accept call other = Some (Accept call.parties)
+sent_of s Say.Release call other = Some (Release call.parties)
+sent_of s Say.ReleaseAck call other = Some (ReleaseAck call.parties)
+sent_of s Say.AcceptAck call other = Some (AcceptAck call.parties)
+sent_of s (Say.Reject reason) call other = Some (Reject call.parties (reason_or s reason))
+sent_of s Say.RejectOther call other = Some (Reject other (reason_or s Reason.Busy))
 
 -- ---- the whole
 
@@ -181,7 +181,7 @@ next_by s p out r media x =
     }
 
 -- the next record, what stops, what starts, what is sent
-abbrev pub carried_by : Settings → PrivateRecord → Timers → Request → Media → Effect → Carried
+abbrev pub carried_by : Settings → PrivateRecord → Timers → Request → Media → Effect → Carried PrivateRecord Timers
 carried_by s p out r media x =
     record {
       next = next_by s p out r media x;
@@ -191,6 +191,6 @@ carried_by s p out r media x =
     }
 
 -- what carrying out a row gives
-unfoldable pub carry_out : Settings → PrivateRecord → Input → Row → Carried
+unfoldable pub carry_out : Settings → PrivateRecord → Input → Option Row → Carried PrivateRecord Timers
 carry_out s p i row =
     carried_by s p (ran_out_by i.event) (request_of s i.event) i.media (effect_of row p.state)

@@ -1,11 +1,11 @@
 -- What each row R1 to R29 does, one clause a row. Assumes nothing.
 -- What holds for all rows is not said here: that a state change stops what runs on, that entering P1 starts TFP7, and what is sent by default.
-use Rattle.std.specs.Prelude.{true, false}
+use Rattle.std.specs.Prelude.{true, false, Option, Some, None}
 use Rattle.private_record.specs.Phases.{no_timer, tfp1, tfp2, tfp3, tfp4, tfp5, tfp7}
 use Rattle.private_record.specs.declared.states.State.{State}
 use Rattle.private_record.specs.declared.states.Timers.{Timers}
 use Rattle.private_rows.specs.declared.Row.{Row}
-use Rattle.private_rows.specs.declared.Row.TheVariants.{Discard, R1, R2, R3, R4, R5, R6, R7, R8, R9, R10, R11, R12, R13, R14, R15, R16, R17, R18, R19, R20, R21, R22, R23, R24, R25, R26, R27, R28, R29}
+use Rattle.private_rows.specs.declared.Row.TheVariants.{R1, R2, R3, R4, R5, R6, R7, R8, R9, R10, R11, R12, R13, R14, R15, R16, R17, R18, R19, R20, R21, R22, R23, R24, R25, R26, R27, R28, R29}
 use Rattle.private_call.specs.declared.effects.Hold.{Hold}
 use Rattle.private_call.specs.declared.effects.Reason.{Reason}
 use Rattle.private_call.specs.declared.effects.Say.{Say}
@@ -36,34 +36,34 @@ abbrev pub turns : State → Timers → Timers → Say → Effect
 turns state stop start say = record { to = state; stop = stop; start = start; again = false; hold = Hold.Keep; say = say }
 
 -- the table of the rows: the state entered, the timers started, the call held, the message sent
-abbrev pub effect_of : Row → State → Effect
-effect_of Discard state = stays state Hold.Keep Say.Nothing
-effect_of R1 state = takes State.P2 tfp1 Say.SetupRequest
-effect_of R2 state = repeats state tfp1 Say.SetupRequest
-effect_of R3 state = ends Say.Nothing
-effect_of R4 state = turns state tfp1 tfp2 Say.Nothing
-effect_of R5 state = enters State.P4 tfp5 Hold.Media Say.AcceptAck
-effect_of R6 state = ends Say.Nothing
-effect_of R7 state = ends Say.Nothing
-effect_of R8 state = enters State.P3 tfp3 Hold.Keep Say.Release
-effect_of R9 state = enters State.P3 tfp3 Hold.Keep Say.Release
-effect_of R10 state = repeats state tfp3 Say.Release
-effect_of R11 state = ends Say.Nothing
-effect_of R12 state = ends Say.Nothing
-effect_of R13 state = ends Say.ReleaseAck
-effect_of R14 state = stays state Hold.Keep Say.ReleaseAck
-effect_of R15 state = ends Say.Nothing
-effect_of R16 state = repeats state tfp4 Say.Accept
-effect_of R17 state = ends Say.Nothing
-effect_of R18 state = enters State.P4 tfp5 Hold.Keep Say.Nothing
-effect_of R19 state = takes State.P1 tfp7 (Say.Reject Reason.MediaFailure)
-effect_of R20 state = takes State.P5 tfp4 Say.Accept
-effect_of R21 state = stays state Hold.Request (Say.Reject Reason.SecurityFailure)
-effect_of R22 state = takes State.P5 tfp2 Say.Ringing
-effect_of R23 state = turns state tfp2 tfp4 Say.Accept
-effect_of R24 state = ends (Say.Reject Reason.SecurityFailure)
-effect_of R25 state = ends (Say.Reject Reason.Reject)
-effect_of R26 state = ends (Say.Reject Reason.Failed)
-effect_of R27 state = stays state Hold.Keep Say.RejectOther
-effect_of R28 state = enters State.P0 no_timer Hold.Clear Say.Nothing
-effect_of R29 state = stays state Hold.Keep Say.AcceptAck
+abbrev pub effect_of : Option Row → State → Effect
+effect_of None state = stays state Hold.Keep Say.Nothing
+effect_of (Some R1) state = takes State.P2 tfp1 Say.SetupRequest
+effect_of (Some R2) state = repeats state tfp1 Say.SetupRequest
+effect_of (Some R3) state = ends Say.Nothing
+effect_of (Some R4) state = turns state tfp1 tfp2 Say.Nothing
+effect_of (Some R5) state = enters State.P4 tfp5 Hold.Media Say.AcceptAck
+effect_of (Some R6) state = ends Say.Nothing
+effect_of (Some R7) state = ends Say.Nothing
+effect_of (Some R8) state = enters State.P3 tfp3 Hold.Keep Say.Release
+effect_of (Some R9) state = enters State.P3 tfp3 Hold.Keep Say.Release
+effect_of (Some R10) state = repeats state tfp3 Say.Release
+effect_of (Some R11) state = ends Say.Nothing
+effect_of (Some R12) state = ends Say.Nothing
+effect_of (Some R13) state = ends Say.ReleaseAck
+effect_of (Some R14) state = stays state Hold.Keep Say.ReleaseAck
+effect_of (Some R15) state = ends Say.Nothing
+effect_of (Some R16) state = repeats state tfp4 Say.Accept
+effect_of (Some R17) state = ends Say.Nothing
+effect_of (Some R18) state = enters State.P4 tfp5 Hold.Keep Say.Nothing
+effect_of (Some R19) state = takes State.P1 tfp7 (Say.Reject Reason.MediaFailure)
+effect_of (Some R20) state = takes State.P5 tfp4 Say.Accept
+effect_of (Some R21) state = stays state Hold.Request (Say.Reject Reason.SecurityFailure)
+effect_of (Some R22) state = takes State.P5 tfp2 Say.Ringing
+effect_of (Some R23) state = turns state tfp2 tfp4 Say.Accept
+effect_of (Some R24) state = ends (Say.Reject Reason.SecurityFailure)
+effect_of (Some R25) state = ends (Say.Reject Reason.Reject)
+effect_of (Some R26) state = ends (Say.Reject Reason.Failed)
+effect_of (Some R27) state = stays state Hold.Keep Say.RejectOther
+effect_of (Some R28) state = enters State.P0 no_timer Hold.Clear Say.Nothing
+effect_of (Some R29) state = stays state Hold.Keep Say.AcceptAck

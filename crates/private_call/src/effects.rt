@@ -1,6 +1,5 @@
 // What each row of the private call machine does.
-ghost use Rattle.std.specs.Prelude.{◌≡◌};
-ghost use Rattle.private_call.specs.Carried.{reason_number};
+ghost use Rattle.std.specs.Prelude.{◌≡◌, Some};
 ghost use Rattle.private_call.specs.Effects.{enters as enters_of, takes as takes_of, ends as ends_of};
 ghost use Rattle.private_call.specs.Effects.{stays as stays_of, repeats as repeats_of, turns as turns_of};
 ghost use Rattle.private_call.specs.Effects.{effect_of};
@@ -21,32 +20,18 @@ pub enum Hold {
     Clear,
 }
 
-// The reasons of a reject.
+// The reasons of a reject, each with its number.
 #[derive(Clone, Copy)]
 pub enum Reason {
-    Reject,
-    MediaFailure,
-    Busy,
-    SecurityFailure,
-    Failed,
-}
-
-impl Reason {
-    // Its number in a reject.
-    pub(crate) fn number(self) -> u8
-        ensures { result ≡ reason_number self }
-    {
-        match self {
-            Reason::Reject => 0,
-            Reason::MediaFailure => 1,
-            Reason::Busy => 2,
-            Reason::SecurityFailure => 3,
-            Reason::Failed => 4,
-        }
-    }
+    Reject = 0,
+    MediaFailure = 1,
+    Busy = 2,
+    SecurityFailure = 3,
+    Failed = 4,
 }
 
 // What a row sends.
+// Nothing is a case of it and no None, which is no plainer: the table would wrap what each other row says in a Some.
 #[derive(Clone, Copy)]
 pub enum Say {
     Nothing,
@@ -83,12 +68,8 @@ impl Effect {
         ensures { result ≡ enters_of to start hold say }
     {
         Effect {
-            to: to,
-            stop: Timers::NONE,
-            start: start,
-            again: false,
-            hold: hold,
-            say: say,
+            start,
+            ..Effect::stays(to, hold, say)
         }
     }
 
@@ -115,8 +96,8 @@ impl Effect {
             stop: Timers::NONE,
             start: Timers::NONE,
             again: false,
-            hold: hold,
-            say: say,
+            hold,
+            say,
         }
     }
 
@@ -125,12 +106,9 @@ impl Effect {
         ensures { result ≡ repeats_of state start say }
     {
         Effect {
-            to: state,
-            stop: Timers::NONE,
-            start: start,
+            start,
             again: true,
-            hold: Hold::Keep,
-            say: say,
+            ..Effect::stays(state, Hold::Keep, say)
         }
     }
 
@@ -139,22 +117,18 @@ impl Effect {
         ensures { result ≡ turns_of state stop start say }
     {
         Effect {
-            to: state,
-            stop: stop,
-            start: start,
-            again: false,
-            hold: Hold::Keep,
-            say: say,
+            stop,
+            start,
+            ..Effect::stays(state, Hold::Keep, say)
         }
     }
 }
 
 // What a row does: the table of the rows.
 pub(crate) fn effect_of(row: Row, state: State) -> Effect
-    ensures { result ≡ effect_of row state }
+    ensures { result ≡ effect_of (Some row) state }
 {
     match row {
-        Row::Discard => Effect::stays(state, Hold::Keep, Say::Nothing),
         Row::R1 => Effect::takes(State::P2, Timers::TFP1, Say::SetupRequest),
         Row::R2 => Effect::repeats(state, Timers::TFP1, Say::SetupRequest),
         Row::R3 => Effect::ends(Say::Nothing),

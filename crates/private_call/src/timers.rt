@@ -1,7 +1,7 @@
 // What becomes of the timers, by the rules for all rows.
 ghost use Rattle.std.specs.Prelude.{◌≡◌};
-ghost use Rattle.private_record.specs.Phases.{state_number, has as has_timer};
-ghost use Rattle.private_call.specs.Carried.{ran_out_by, timer_out, private_timer_out, changes, started_of};
+ghost use Rattle.private_record.specs.Phases.{has as has_timer};
+ghost use Rattle.private_call.specs.Carried.{ran_out_by, private_timer_out, changes, started_of};
 ghost use Rattle.private_call.specs.Carried.{timer_facts, stopped_of, running_after};
 
 use call::timers::TimerFacts;
@@ -22,38 +22,13 @@ fn private_timer_out(timer: PrivateTimer) -> Timers
     }
 }
 
-// A timer of either machine that just ran out.
-fn timer_out(timer: Timer) -> Timers
-    ensures { result ≡ timer_out timer }
-{
-    match timer {
-        Timer::Private(t) => private_timer_out(t),
-        Timer::Group(_) => Timers::NONE,
-    }
-}
-
 // The timer that just ran out.
 pub(crate) fn ran_out(event: Event) -> Timers
     ensures { result ≡ ran_out_by event }
 {
     match event {
-        Event::Action(_) => Timers::NONE,
-        Event::Expiry(timer) => timer_out(timer),
-        Event::Message(_) => Timers::NONE,
-    }
-}
-
-// The states by their numbers.
-fn state_number(state: State) -> u8
-    ensures { result ≡ state_number state }
-{
-    match state {
-        State::P0 => 0,
-        State::P1 => 1,
-        State::P2 => 2,
-        State::P3 => 3,
-        State::P4 => 4,
-        State::P5 => 5,
+        Event::Expiry(Timer::Private(timer)) => private_timer_out(timer),
+        _ => Timers::NONE,
     }
 }
 
@@ -61,7 +36,7 @@ fn state_number(state: State) -> u8
 pub(crate) fn state_changes(state: State, to: State) -> bool
     ensures { result ≡ changes state to }
 {
-    !(state_number(state) == state_number(to))
+    state != to
 }
 
 // What starts: what the row starts, and TFP7 where it enters P1.
@@ -69,14 +44,9 @@ pub(crate) fn state_changes(state: State, to: State) -> bool
 pub(crate) fn started(state: State, to: State, start: Timers) -> Timers
     ensures { result ≡ started_of state to start }
 {
-    let enters_p1 = state_changes(state, to) & (state_number(to) == 1);
     Timers {
-        tfp1: start.tfp1,
-        tfp2: start.tfp2,
-        tfp3: start.tfp3,
-        tfp4: start.tfp4,
-        tfp5: start.tfp5,
-        tfp7: start.tfp7 | enters_p1,
+        tfp7: start.tfp7 || (state_changes(state, to) && to == State::P1),
+        ..start
     }
 }
 
@@ -109,15 +79,11 @@ impl TimerSets {
     fn of(self, timer: PrivateTimer) -> TimerFacts
         ensures { result ≡ timer_facts self timer }
     {
-        let was_running = self.was_running;
-        let ran_out = self.ran_out;
-        let stop_asked = self.stop_asked;
-        let started = self.started;
         TimerFacts {
-            was_running: has(was_running, timer),
-            ran_out: has(ran_out, timer),
-            stop_asked: has(stop_asked, timer),
-            started: has(started, timer),
+            was_running: has(self.was_running, timer),
+            ran_out: has(self.ran_out, timer),
+            stop_asked: has(self.stop_asked, timer),
+            started: has(self.started, timer),
             state_changes: self.state_changes,
         }
     }

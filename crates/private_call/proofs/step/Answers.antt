@@ -1,96 +1,46 @@
--- A step is refused by a test, discarded, refused by R1, refused by the writer, or carried out. Assumes nothing.
-use Rattle.std.proofs.Common.{◌≡◌, ℕ, Bool, List, sym, ap, ◌∙◌}
-use Rattle.writer.specs.declared.Written.{Written}
-use Rattle.call.specs.declared.Settings.{Settings}
-use Rattle.call.specs.declared.Input.{Input}
-use Rattle.stepping.specs.Numbers.{number_before_row}
-use Rattle.stepping.specs.Sending.{send_told, send_buffer}
-use Rattle.private_record.specs.Formed.{is_well_formed}
-use Rattle.private_record.specs.declared.states.PrivateRecord.{PrivateRecord}
-use Rattle.private_rows.specs.Rows.{row_number, row_of}
-use Rattle.private_rows.specs.declared.Row.{Row}
-use Rattle.private_call.specs.Carried.{carry_out}
-use Rattle.private_call.specs.Step.{identifier_taken, done_of, refused_of, moved_of}
-use Rattle.private_call.specs.declared.carrying.Carried.{Carried}
-use Rattle.private_call.proofs.Answers.{refused-first, refused-by-row, refused-sending, carried-out}
-use Rattle.private_call.proofs.Steps.{answered-at-once}
+use Rattle.std.proofs.Common.{rules, ◌≡◌, Some, ℕ, ◌+◌, ◌-◌, ◌*◌, ◌<◌, ◌≤◌, length, ◌/◌, ◌%◌, Bool, true, false, nat_eq, nat_lt, List, [], ◌∷◌, ◌++◌, slice_index_or, slice_set, bit_and, bit_or, Fits, w8, w32, w64, Bor, MutBor}
+use Rattle.private_call.specs.Step.{identifier_taken, answer_told, step_of, step_buffer}
 use Rattle.private_call.proofs.step.Goals as goal
 
--- the number before a row is looked for
-number : (s : Settings) (p : PrivateRecord) (i : Input) (formed : Bool) (n : ℕ) → formed ≡ is_well_formed s p → n ≡ number_before_row s formed i
-    → n ≡ number_before_row s (is_well_formed s p) i
-number s p i formed n f e = e ∙ ap (λ (w : Bool). number_before_row s w i) f
+-- src/lib.rt:40:5
+pub returns-in_err-number_before_row-clause-value :
+    goal.returns-in_err-number_before_row-clause-value
+returns-in_err-number_before_row-clause-value c = ?
 
--- whether R1 refuses
-taken : (s : Settings) (p : PrivateRecord) (i : Input) (row : Row) (b : Bool) → row ≡ row_of s p i → b ≡ identifier_taken s p i.event row
-    → identifier_taken s p i.event (row_of s p i) ≡ b
-taken s p i row b r e = sym (e ∙ ap (identifier_taken s p i.event) r)
+-- src/lib.rt:40:5
+pub returns-in_err-number_before_row-clause-out_after :
+    goal.returns-in_err-number_before_row-clause-out_after
+returns-in_err-number_before_row-clause-out_after c = ?
 
--- the number of the row that is met
-met : (s : Settings) (p : PrivateRecord) (i : Input) (row : Row) (n : ℕ) → row ≡ row_of s p i → n ≡ row_number row → row_number (row_of s p i) ≡ n
-met s p i row n r e = sym (e ∙ ap row_number r)
+-- src/lib.rt:42:9
+pub returns-in_default-clause-value : goal.returns-in_default-clause-value
+returns-in_default-clause-value c = ?
 
--- what is carried out
-done : (s : Settings) (p : PrivateRecord) (i : Input) (row : Row) (d : Carried) → row ≡ row_of s p i → d ≡ carry_out s p i row → d ≡ done_of s p i
-done s p i row d r e = e ∙ ap (carry_out s p i) r
+-- src/lib.rt:42:9
+pub returns-in_default-clause-out_after : goal.returns-in_default-clause-out_after
+returns-in_default-clause-out_after c = ?
 
--- what the writer tells
-told : (d e : Carried) (out : List ℕ) (written : Written) → d ≡ e → written ≡ send_told d.sent d.next.call.media out
-    → written ≡ send_told e.sent e.next.call.media out
-told d e out written r t = t ∙ ap (λ (x : Carried). send_told x.sent x.next.call.media out) r
+-- src/lib.rt:51:9
+pub returns-then-identifier_taken-clause-value : goal.returns-then-identifier_taken-clause-value
+returns-then-identifier_taken-clause-value c = ?
 
--- what the writer leaves
-left : (d e : Carried) (out after : List ℕ) → d ≡ e → after ≡ send_buffer d.sent d.next.call.media out
-    → after ≡ send_buffer e.sent e.next.call.media out
-left d e out after r t = t ∙ ap (λ (x : Carried). send_buffer x.sent x.next.call.media out) r
+-- src/lib.rt:51:9
+pub returns-then-identifier_taken-clause-out_after :
+    goal.returns-then-identifier_taken-clause-out_after
+returns-then-identifier_taken-clause-out_after c = ?
 
-pub returns-then-number-ne0 : goal.returns-then-number-ne0
-returns-then-number-ne0 c =
-    let a = c.args in
-    let n = number a.settings a.stored a.input _ _ c.well_formed-2.ensures c.number_before_row-number.ensures in
-    let r = refused-first a.settings a.stored a.input a.out.now (λ e. c.if-number-ne0.true (n ∙ e)) in
-    record { value = c.refused.ensures ∙ ap (λ (n : ℕ). refused_of n a.stored) n ∙ r.0; out_after = r.1 }
+-- src/lib.rt:54:18
+pub returns-in_err-length-clause-value : goal.returns-in_err-length-clause-value
+returns-in_err-length-clause-value c = ?
 
-pub returns-then-row_number-eq0 : goal.returns-then-row_number-eq0
-returns-then-row_number-eq0 c =
-    let a = c.args in
-    let n = number a.settings a.stored a.input _ _ c.well_formed-2.ensures c.number_before_row-number.ensures in
-    let m = met a.settings a.stored a.input _ _ c.row_of-row.ensures c.row_number.ensures in
-    let r = answered-at-once a.settings a.stored a.input a.out.now (sym n ∙ c.if-number-ne0.false) (m ∙ c.if-row_number-eq0.true) in
-    record { value = c.refused-then-row_number-eq0.ensures ∙ r.0; out_after = r.1 }
+-- src/lib.rt:54:18
+pub returns-in_err-length-clause-out_after : goal.returns-in_err-length-clause-out_after
+returns-in_err-length-clause-out_after c = ?
 
-pub returns-then-identifier_taken : goal.returns-then-identifier_taken
-returns-then-identifier_taken c =
-    let a = c.args in
-    let n = number a.settings a.stored a.input _ _ c.well_formed-2.ensures c.number_before_row-number.ensures in
-    let t = taken a.settings a.stored a.input _ _ c.row_of-row.ensures c.if-identifier_taken.ensures in
-    let r = refused-by-row a.settings a.stored a.input a.out.now (sym n ∙ c.if-number-ne0.false) t in
-    record { value = c.refused-then-identifier_taken.ensures ∙ r.0; out_after = r.1 }
+-- src/lib.rt:31:1
+pub returns-clause-value : goal.returns-clause-value
+returns-clause-value c = ?
 
-pub returns-then-written-ne0 : goal.returns-then-written-ne0
-returns-then-written-ne0 c =
-    let a = c.args in
-    let n = number a.settings a.stored a.input _ _ c.well_formed-2.ensures c.number_before_row-number.ensures in
-    let t = taken a.settings a.stored a.input _ _ c.row_of-row.ensures c.if-identifier_taken.ensures in
-    let d = done a.settings a.stored a.input _ _ c.row_of-row.ensures c.carry_out-done.ensures in
-    let w = told _ _ a.out.now _ d c.write_sent-written.ensures.value in
-    let b = left _ _ a.out.now _ d c.write_sent-written.ensures.out_after in
-    let r = refused-sending a.settings a.stored a.input a.out.now (sym n ∙ c.if-number-ne0.false) t
-    (λ z. c.if-written-ne0.true (ap (λ (x : Written). x.number) w ∙ z)) in
-    record { value = c.refused-then-written-ne0.ensures ∙ ap (λ (x : Written). refused_of x.number a.stored) w ∙ r.0; out_after = b ∙ r.1 }
-
-pub returns : goal.returns
-returns c =
-    let a = c.args in
-    let n = number a.settings a.stored a.input _ _ c.well_formed-2.ensures c.number_before_row-number.ensures in
-    let m = met a.settings a.stored a.input _ _ c.row_of-row.ensures c.row_number.ensures in
-    let t = taken a.settings a.stored a.input _ _ c.row_of-row.ensures c.if-identifier_taken.ensures in
-    let d = done a.settings a.stored a.input _ _ c.row_of-row.ensures c.carry_out-done.ensures in
-    let w = told _ _ a.out.now _ d c.write_sent-written.ensures.value in
-    let b = left _ _ a.out.now _ d c.write_sent-written.ensures.out_after in
-    let r = carried-out a.settings a.stored a.input a.out.now (sym n ∙ c.if-number-ne0.false) (λ e. c.if-row_number-eq0.false (sym m ∙ e)) t
-    (ap (λ (x : Written). x.number) (sym w) ∙ c.if-written-ne0.false) in
-    record {
-      value = c.moved.ensures ∙ (λ j. moved_of (c.row_of-row.ensures j) (d j) (w j).length) ∙ r.0;
-      out_after = b ∙ r.1;
-    }
+-- src/lib.rt:31:1
+pub returns-clause-out_after : goal.returns-clause-out_after
+returns-clause-out_after c = ?

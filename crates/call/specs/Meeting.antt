@@ -1,10 +1,10 @@
 -- Which row of a list is met, whatever the rows are. Assumes nothing.
-use Rattle.std.specs.Prelude.{List, [], ◌∷◌, Bool, true, cond, not, ◌&&◌}
+use Rattle.std.specs.Prelude.{List, [], ◌∷◌, Bool, true, cond, not, ◌&&◌, Option, Some, None}
 
--- the first row of a list for which all that it asks holds; another where there is none
-abbrev pub first_met : {Row : Type 0} → Row → List (Row × Bool) → Row
-first_met none [] = none
-first_met none (row ∷ rows) = cond row.1 row.0 (first_met none rows)
+-- the first row of a list for which all that it asks holds, where there is one
+abbrev pub first_met : {Row : Type 0} → List (Row × Bool) → Option Row
+first_met [] = None
+first_met (row ∷ rows) = cond row.1 (Some row.0) (first_met rows)
 
 -- no row of a list is met
 abbrev pub none_met : {Row : Type 0} → List (Row × Bool) → Bool

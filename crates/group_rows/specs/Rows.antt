@@ -1,5 +1,5 @@
 -- Which row an event meets: the rows G1 to G11, each with all that it asks, in the words of Asking.antt. Assumes nothing.
-use Rattle.std.specs.Prelude.{ℕ, List, [], ◌∷◌, Bool, not, ◌&&◌, ◌||◌}
+use Rattle.std.specs.Prelude.{ℕ, List, [], ◌∷◌, Bool, not, ◌&&◌, ◌||◌, Option, Some, None}
 use Rattle.call.specs.Meeting.{first_met}
 use Rattle.call.specs.Announced.{announced_of}
 use Rattle.call.specs.declared.Settings.{Settings}
@@ -10,7 +10,7 @@ use Rattle.group_record.specs.declared.states.GroupRecord.{GroupRecord}
 use Rattle.group_rows.specs.Causes.{same_cause, cause_of, facts_of}
 use Rattle.group_rows.specs.Asking.{in_state, expires, announced}
 use Rattle.group_rows.specs.declared.Row.{Row}
-use Rattle.group_rows.specs.declared.Row.TheVariants.{Discard, G1, G2, G3, G4, G5, G6, G7, G8, G9, G10, G11}
+use Rattle.group_rows.specs.declared.Row.TheVariants.{G1, G2, G3, G4, G5, G6, G7, G8, G9, G10, G11}
 use Rattle.group_rows.specs.declared.causes.Cause.{Cause}
 use Rattle.group_rows.specs.declared.causes.Facts.{Facts}
 
@@ -32,27 +32,27 @@ rows_ask f c x =
 
 -- ---- the row that an event meets
 
--- the row that is met in a state: the first for which all that it asks holds; Discard where there is none
-unfoldable pub row_in : State → Cause → Facts → Row
-row_in state c x = first_met Discard (rows_ask state c x)
+-- the row that is met in a state: the first for which all that it asks holds; None where there is none
+unfoldable pub row_in : State → Cause → Facts → Option Row
+row_in state c x = first_met (rows_ask state c x)
 
 -- the row that an event meets from a record
-abbrev pub row_of : Settings → GroupRecord → Event → Row
+abbrev pub row_of : Settings → GroupRecord → Event → Option Row
 row_of s g e = row_in g.state (cause_of s e) (facts_of s g.call (announced_of s e).call)
 
 -- ---- the rows by number
 
 -- the rows by their numbers, 0 where none is met
-abbrev pub row_number : Row → ℕ
-row_number Discard = 0
-row_number G1 = 1
-row_number G2 = 2
-row_number G3 = 3
-row_number G4 = 4
-row_number G5 = 5
-row_number G6 = 6
-row_number G7 = 7
-row_number G8 = 8
-row_number G9 = 9
-row_number G10 = 10
-row_number G11 = 11
+abbrev pub row_number : Option Row → ℕ
+row_number None = 0
+row_number (Some G1) = 1
+row_number (Some G2) = 2
+row_number (Some G3) = 3
+row_number (Some G4) = 4
+row_number (Some G5) = 5
+row_number (Some G6) = 6
+row_number (Some G7) = 7
+row_number (Some G8) = 8
+row_number (Some G9) = 9
+row_number (Some G10) = 10
+row_number (Some G11) = 11

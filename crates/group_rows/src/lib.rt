@@ -12,34 +12,30 @@ use crate::rows::row_in;
 use call::{Event, Settings, announced_of};
 use group_record::states::GroupRecord;
 
-// The rows by name, and Discard where none is met.
-#[derive(Clone, Copy)]
+// The rows by name, each with its number.
+#[derive(Clone, Copy, PartialEq, Eq)]
 pub enum Row {
-    Discard,
-    G1,
-    G2,
-    G3,
-    G4,
-    G5,
-    G6,
-    G7,
-    G8,
-    G9,
-    G10,
-    G11,
+    G1 = 1,
+    G2 = 2,
+    G3 = 3,
+    G4 = 4,
+    G5 = 5,
+    G6 = 6,
+    G7 = 7,
+    G8 = 8,
+    G9 = 9,
+    G10 = 10,
+    G11 = 11,
 }
 
-// The row that an event meets from a record.
-pub fn row_of(settings: Settings, stored: GroupRecord, event: Event) -> Row
+// The row that an event meets from a record, if it meets one.
+pub fn row_of(settings: Settings, stored: GroupRecord, event: Event) -> Option<Row>
     ensures { result ≡ row_of settings stored event }
 {
-    let state = stored.state;
-    let held = stored.call;
-    let announced = announced_of(settings, event);
-    let brought = announced.call;
+    let brought = announced_of(settings, event).call;
     row_in(
-        state,
+        stored.state,
         cause_of(settings, event),
-        facts_of(settings, held, brought),
+        facts_of(settings, stored.call, brought),
     )
 }

@@ -1,5 +1,5 @@
 -- Which row an event meets: the rows R1 to R29, each with all that it asks, in the words of Asking.antt. Assumes nothing.
-use Rattle.std.specs.Prelude.{ℕ, List, [], ◌∷◌, Bool, not, ◌&&◌, ◌||◌}
+use Rattle.std.specs.Prelude.{ℕ, List, [], ◌∷◌, Bool, not, ◌&&◌, ◌||◌, Option, Some, None}
 use Rattle.call.specs.Meeting.{first_met}
 use Rattle.call.specs.declared.PrivateTimer.{PrivateTimer}
 use Rattle.call.specs.declared.Settings.{Settings}
@@ -10,7 +10,7 @@ use Rattle.private_record.specs.declared.states.PrivateRecord.{PrivateRecord}
 use Rattle.private_rows.specs.Causes.{same_cause, cause_of, facts_of}
 use Rattle.private_rows.specs.Asking.{in_state, runs, expires, new_request, same}
 use Rattle.private_rows.specs.declared.Row.{Row}
-use Rattle.private_rows.specs.declared.Row.TheVariants.{Discard, R1, R2, R3, R4, R5, R6, R7, R8, R9, R10, R11, R12, R13, R14, R15, R16, R17, R18, R19, R20, R21, R22, R23, R24, R25, R26, R27, R28, R29}
+use Rattle.private_rows.specs.declared.Row.TheVariants.{R1, R2, R3, R4, R5, R6, R7, R8, R9, R10, R11, R12, R13, R14, R15, R16, R17, R18, R19, R20, R21, R22, R23, R24, R25, R26, R27, R28, R29}
 use Rattle.private_rows.specs.declared.causes.Cause.{Cause}
 use Rattle.private_rows.specs.declared.causes.Facts.{Facts}
 
@@ -50,45 +50,45 @@ rows_ask f c x =
 
 -- ---- the row that an event meets
 
--- the row that is met in a phase: the first for which all that it asks holds; Discard where there is none
-unfoldable pub row_in : Phase → Cause → Facts → Row
-row_in f c x = first_met Discard (rows_ask f c x)
+-- the row that is met in a phase: the first for which all that it asks holds; None where there is none
+unfoldable pub row_in : Phase → Cause → Facts → Option Row
+row_in f c x = first_met (rows_ask f c x)
 
 -- the row that an event meets from a record
-abbrev pub row_of : Settings → PrivateRecord → Input → Row
+abbrev pub row_of : Settings → PrivateRecord → Input → Option Row
 row_of s p i = row_in (phase_of p) (cause_of s i.event) (facts_of s (phase_of p) p.counters p.call i)
 
 -- ---- the rows by number
 
 -- the rows by their numbers, 0 where none is met
-abbrev pub row_number : Row → ℕ
-row_number Discard = 0
-row_number R1 = 1
-row_number R2 = 2
-row_number R3 = 3
-row_number R4 = 4
-row_number R5 = 5
-row_number R6 = 6
-row_number R7 = 7
-row_number R8 = 8
-row_number R9 = 9
-row_number R10 = 10
-row_number R11 = 11
-row_number R12 = 12
-row_number R13 = 13
-row_number R14 = 14
-row_number R15 = 15
-row_number R16 = 16
-row_number R17 = 17
-row_number R18 = 18
-row_number R19 = 19
-row_number R20 = 20
-row_number R21 = 21
-row_number R22 = 22
-row_number R23 = 23
-row_number R24 = 24
-row_number R25 = 25
-row_number R26 = 26
-row_number R27 = 27
-row_number R28 = 28
-row_number R29 = 29
+abbrev pub row_number : Option Row → ℕ
+row_number None = 0
+row_number (Some R1) = 1
+row_number (Some R2) = 2
+row_number (Some R3) = 3
+row_number (Some R4) = 4
+row_number (Some R5) = 5
+row_number (Some R6) = 6
+row_number (Some R7) = 7
+row_number (Some R8) = 8
+row_number (Some R9) = 9
+row_number (Some R10) = 10
+row_number (Some R11) = 11
+row_number (Some R12) = 12
+row_number (Some R13) = 13
+row_number (Some R14) = 14
+row_number (Some R15) = 15
+row_number (Some R16) = 16
+row_number (Some R17) = 17
+row_number (Some R18) = 18
+row_number (Some R19) = 19
+row_number (Some R20) = 20
+row_number (Some R21) = 21
+row_number (Some R22) = 22
+row_number (Some R23) = 23
+row_number (Some R24) = 24
+row_number (Some R25) = 25
+row_number (Some R26) = 26
+row_number (Some R27) = 27
+row_number (Some R28) = 28
+row_number (Some R29) = 29

@@ -1,19 +1,18 @@
 // What happens, and what a row may ask besides.
 ghost use Rattle.std.specs.Prelude.{◌≡◌};
-ghost use Rattle.private_rows.specs.Causes.{private_action_cause, action_cause, private_timer_cause, timer_cause};
+ghost use Rattle.private_record.specs.Phases.{phase_of, count_of};
 ghost use Rattle.private_rows.specs.Causes.{setup_cause, message_cause, cause_of, same_identifier, same_call};
 ghost use Rattle.private_rows.specs.Causes.{message_same, same_of, pck_asked, trusted as trusted_by, facts_of};
 
-use crate::phases::count_of;
 use call::{
     Action, Counters, Event, Input, PrivateAction, PrivateTimer, Request, Settings, Timer,
     Verdicts, request_of,
 };
 use frame::{Message, Parties};
-use private_record::states::{Phase, PrivateCall};
+use private_record::states::{Phase, PrivateRecord};
 
 // What happens to a private call, without any fields; what can meet no row is Other.
-#[derive(Clone, Copy)]
+#[derive(Clone, Copy, PartialEq, Eq)]
 pub enum Cause {
     UserStarts,
     UserEnds,
@@ -36,7 +35,7 @@ pub enum Cause {
 }
 
 // What a row may ask besides the cause and the phase.
-#[derive(Clone, Copy)]
+#[derive(Clone, Copy, PartialEq, Eq)]
 pub struct Facts {
     // The message is of the stored call.
     pub same: bool,
@@ -54,57 +53,11 @@ pub struct Facts {
 
 // ---- what happens
 
-// A user action.
-fn action_cause(action: Action) -> Cause
-    ensures { result ≡ action_cause action }
-{
-    match action {
-        Action::Private(a) => private_action_cause(a),
-        Action::Group(_) => Cause::Other,
-    }
-}
-
-// A user action of the private machine.
-fn private_action_cause(action: PrivateAction) -> Cause
-    ensures { result ≡ private_action_cause action }
-{
-    match action {
-        PrivateAction::Start(_) => Cause::UserStarts,
-        PrivateAction::End => Cause::UserEnds,
-        PrivateAction::Accept => Cause::UserAccepts,
-        PrivateAction::Reject => Cause::UserRejects,
-    }
-}
-
-// The expiry of a timer.
-fn timer_cause(timer: Timer) -> Cause
-    ensures { result ≡ timer_cause timer }
-{
-    match timer {
-        Timer::Private(t) => private_timer_cause(t),
-        Timer::Group(_) => Cause::Other,
-    }
-}
-
-// The expiry of a timer of the private machine.
-fn private_timer_cause(timer: PrivateTimer) -> Cause
-    ensures { result ≡ private_timer_cause timer }
-{
-    match timer {
-        PrivateTimer::Tfp1 => Cause::Tfp1Expires,
-        PrivateTimer::Tfp2 => Cause::Tfp2Expires,
-        PrivateTimer::Tfp3 => Cause::Tfp3Expires,
-        PrivateTimer::Tfp4 => Cause::Tfp4Expires,
-        PrivateTimer::Tfp5 => Cause::Tfp5Expires,
-        PrivateTimer::Tfp7 => Cause::Tfp7Expires,
-    }
-}
-
 // A setup request counts only if the callee is own and the caller is not.
 fn setup_cause(own: u32, parties: Parties) -> Cause
     ensures { result ≡ setup_cause own parties }
 {
-    if (parties.callee == own) & !(parties.caller == own) {
+    if parties.callee == own && parties.caller != own {
         Cause::SetupHeard
     } else {
         Cause::Other
@@ -119,12 +72,11 @@ fn message_cause(own: u32, message: Message) -> Cause
         Message::SetupRequest(parties, _) => setup_cause(own, parties),
         Message::Ringing(_) => Cause::RingingHeard,
         Message::Accept(_) => Cause::AcceptHeard,
-        Message::Reject(_, _) => Cause::RejectHeard,
+        Message::Reject(..) => Cause::RejectHeard,
         Message::Release(_) => Cause::ReleaseHeard,
         Message::ReleaseAck(_) => Cause::ReleaseAckHeard,
         Message::AcceptAck(_) => Cause::AcceptAckHeard,
-        Message::Announcement(_, _) => Cause::Other,
-        Message::GroupAccept(_) => Cause::Other,
+        _ => Cause::Other,
     }
 }
 
@@ -133,8 +85,17 @@ pub(crate) fn cause_of(settings: Settings, event: Event) -> Cause
     ensures { result ≡ cause_of settings event }
 {
     match event {
-        Event::Action(action) => action_cause(action),
-        Event::Expiry(timer) => timer_cause(timer),
+        Event::Action(Action::Private(PrivateAction::Start(_))) => Cause::UserStarts,
+        Event::Action(Action::Private(PrivateAction::End)) => Cause::UserEnds,
+        Event::Action(Action::Private(PrivateAction::Accept)) => Cause::UserAccepts,
+        Event::Action(Action::Private(PrivateAction::Reject)) => Cause::UserRejects,
+        Event::Expiry(Timer::Private(PrivateTimer::Tfp1)) => Cause::Tfp1Expires,
+        Event::Expiry(Timer::Private(PrivateTimer::Tfp2)) => Cause::Tfp2Expires,
+        Event::Expiry(Timer::Private(PrivateTimer::Tfp3)) => Cause::Tfp3Expires,
+        Event::Expiry(Timer::Private(PrivateTimer::Tfp4)) => Cause::Tfp4Expires,
+        Event::Expiry(Timer::Private(PrivateTimer::Tfp5)) => Cause::Tfp5Expires,
+        Event::Expiry(Timer::Private(PrivateTimer::Tfp7)) => Cause::Tfp7Expires,
+        Event::Action(Action::Group(_)) | Event::Expiry(Timer::Group(_)) => Cause::Other,
         Event::Message(message) => message_cause(settings.own_user, message),
     }
 }
@@ -161,14 +122,13 @@ fn message_same(message: Message, stored: Parties) -> bool
 {
     match message {
         Message::SetupRequest(parties, _) => same_identifier(parties, stored),
-        Message::Ringing(parties) => same_call(parties, stored),
-        Message::Accept(parties) => same_call(parties, stored),
-        Message::Reject(parties, _) => same_call(parties, stored),
-        Message::Release(parties) => same_call(parties, stored),
-        Message::ReleaseAck(parties) => same_call(parties, stored),
-        Message::AcceptAck(parties) => same_call(parties, stored),
-        Message::Announcement(_, _) => false,
-        Message::GroupAccept(_) => false,
+        Message::Ringing(parties)
+        | Message::Accept(parties)
+        | Message::Reject(parties, _)
+        | Message::Release(parties)
+        | Message::ReleaseAck(parties)
+        | Message::AcceptAck(parties) => same_call(parties, stored),
+        _ => false,
     }
 }
 
@@ -177,9 +137,8 @@ fn same_of(event: Event, stored: Parties) -> bool
     ensures { result ≡ same_of event stored }
 {
     match event {
-        Event::Action(_) => false,
-        Event::Expiry(_) => false,
         Event::Message(message) => message_same(message, stored),
+        _ => false,
     }
 }
 
@@ -188,9 +147,8 @@ fn pck_asked(event: Event, request: Request, stored: u32) -> u32
     ensures { result ≡ pck_asked event request stored }
 {
     match event {
-        Event::Action(_) => stored,
-        Event::Expiry(_) => stored,
         Event::Message(_) => request.setup.pck_id,
+        _ => stored,
     }
 }
 
@@ -198,30 +156,34 @@ fn pck_asked(event: Event, request: Request, stored: u32) -> u32
 fn trusted(pck_id: u32, verdicts: Verdicts) -> bool
     ensures { result ≡ trusted_by pck_id verdicts }
 {
-    (pck_id == 0) | verdicts.signature
+    pck_id == 0 || verdicts.signature
+}
+
+// The counter that counts in a phase, of the counters or of their limits; 0 where none does.
+fn count_of(phase: Phase, counters: Counters) -> u8
+    ensures { result ≡ count_of phase counters }
+{
+    match phase {
+        Phase::P2Tfp1 => counters.cfp1,
+        Phase::P3 => counters.cfp3,
+        Phase::P5Tfp4 => counters.cfp4,
+        _ => 0,
+    }
 }
 
 // What a row may ask.
-pub(crate) fn facts_of(
-    settings: Settings,
-    phase: Phase,
-    counters: Counters,
-    call: PrivateCall,
-    input: Input,
-) -> Facts
-    ensures { result ≡ facts_of settings phase counters call input }
+pub(crate) fn facts_of(settings: Settings, stored: PrivateRecord, input: Input) -> Facts
+    ensures { result ≡ facts_of settings (phase_of stored) stored.counters stored.call input }
 {
-    let event = input.event;
-    let verdicts = input.verdicts;
-    let limits = settings.limits;
-    let parties = call.parties;
-    let request = request_of(settings, event);
+    let phase = stored.phase();
+    let request = request_of(settings, input.event);
+    let pck_id = pck_asked(input.event, request, stored.call.pck_id);
     Facts {
-        same: same_of(event, parties),
-        media_verdict: verdicts.media,
+        same: same_of(input.event, stored.call.parties),
+        media_verdict: input.verdicts.media,
         manual: request.setup.commencement == 1,
-        trusted: trusted(pck_asked(event, request, call.pck_id), verdicts),
-        own_caller: parties.caller == settings.own_user,
-        under: count_of(phase, counters) < count_of(phase, limits),
+        trusted: trusted(pck_id, input.verdicts),
+        own_caller: stored.call.parties.caller == settings.own_user,
+        under: count_of(phase, stored.counters) < count_of(phase, settings.limits),
     }
 }

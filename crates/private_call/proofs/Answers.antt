@@ -4,6 +4,9 @@ use mathlib.Core.Path.{◌≡◌, sym, ap, ◌∙◌}
 use mathlib.Core.List.{List}
 use mathlib.Core.Bool.{Bool, true, false, cond}
 use lib.Dec.{eqb}
+use borrow.Author.Tests.{eq-eqb}
+use Rattle.std.specs.Prelude.{Some, None}
+use Rattle.std.proofs.lemmas.Option.{none-some}
 use Rattle.writer.specs.Lent.{lent_after}
 use Rattle.call.specs.declared.Settings.{Settings}
 use Rattle.call.specs.declared.Input.{Input}
@@ -13,6 +16,8 @@ use Rattle.stepping.proofs.Answers as answers
 use Rattle.private_record.specs.Formed.{is_well_formed}
 use Rattle.private_record.specs.declared.states.PrivateRecord.{PrivateRecord}
 use Rattle.private_rows.specs.Rows.{row_number, row_of}
+use Rattle.private_rows.specs.declared.Row.{Row}
+use Rattle.private_rows.proofs.Meets.{same_row}
 use Rattle.private_call.specs.Step.{identifier_taken, done_of, step_line, refused_of, moved_of, answer_met, step_of, step_buffer}
 use Rattle.stepping.specs.Answer.{Answer}
 use Rattle.private_call.proofs.Steps.{number-in-parts, buffer_lent, answer-of-row}
@@ -64,8 +69,9 @@ module _ (s : Settings) (p : PrivateRecord) (i : Input) (out : List ℕ) where
       as_step (answers.refused-sending s (is_well_formed s p) i taken (done_of s p i).sent (done_of s p i).next.call.media out (λ n. refused_of n p) (answer_met s p i) e t f)
 
   -- carried out, with the length that the writer tells
-  pub carried-out : before ≡ 0 → (row_number (row_of s p i) ≡ 0 → ⊥) → taken ≡ false → writers ≡ 0
+  pub carried-out : {row : Row} → before ≡ 0 → row_of s p i ≡ Some row → taken ≡ false → writers ≡ 0
       → Answers (moved_of (row_of s p i) (done_of s p i) (send_told (done_of s p i).sent (done_of s p i).next.call.media out).length) left
-  carried-out e n t w =
+  carried-out {row} e m t w =
       let r = as_step (answers.carried-out s (is_well_formed s p) i taken (done_of s p i).sent (done_of s p i).next.call.media out (λ n. refused_of n p) (answer_met s p i) e t w) in
+      let n : row_number (row_of s p i) ≡ 0 → ⊥ = λ z. none-some row (sym (same_row (row_of s p i) None (eq-eqb (row_number (row_of s p i)) 0 z)) ∙ m) in
       (ap (moved_of (row_of s p i) (done_of s p i)) (answers.told-length (done_of s p i).sent (done_of s p i).next.call.media out w) ∙ sym (answer-of-row s p i n) ∙ r.0, r.1)

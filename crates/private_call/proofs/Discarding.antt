@@ -9,7 +9,6 @@ use Rattle.call.specs.declared.Counters.{Counters}
 use Rattle.call.specs.declared.Settings.{Settings}
 use Rattle.call.specs.declared.PrivateTimer.{PrivateTimer}
 use Rattle.call.specs.declared.Input.{Input}
-use Rattle.frame.specs.declared.Message.{Message}
 use Rattle.call.proofs.Timing.{stops-none, runs-on-one}
 use Rattle.private_record.specs.Phases.{state_number, no_timer, running_of, phase_of}
 use Rattle.private_record.specs.Formed.{counter_good, counters_good}

@@ -149,10 +149,9 @@ discards s p i out e r = (
 )
 
 -- so once the tests before the rows are passed, an event that meets no row is answered at once
-pub answered-at-once : (s : Settings) (p : PrivateRecord) (i : Input) (out : List ℕ) → number_before_row s (is_well_formed s p) i ≡ 0 → row_number (row_of s p i) ≡ 0
+pub answered-at-once : (s : Settings) (p : PrivateRecord) (i : Input) (out : List ℕ) → number_before_row s (is_well_formed s p) i ≡ 0 → row_of s p i ≡ None
     → (discarded p ≡ step_of s p i out) × (out ≡ step_buffer s p i out)
-answered-at-once s p i out e n =
-    let r = same_row (row_of s p i) None (eq-eqb (row_number (row_of s p i)) 0 n) in
+answered-at-once s p i out e r =
     let passed : number_before_sending s p i ≡ 0 =
     rw (tests-parts s (is_well_formed s p) i (identifier_taken s p i.event (row_of s p i)), eq-eqb (number_before_row s (is_well_formed s p) i) 0 e, ap (identifier_taken s p i.event) r) in
     let d = discards s p i out passed r in

@@ -49,7 +49,11 @@ impl CounterFacts {
     {
         match self {
             CounterFacts { runs: false, .. } => 0,
-            CounterFacts { started: false, was, .. } => was,
+            CounterFacts {
+                started: false,
+                was,
+                ..
+            } => was,
             CounterFacts { again: false, .. } => Counters::LEAST,
             CounterFacts { limit, was, .. } => one_more(limit, was),
         }
@@ -171,16 +175,21 @@ pub(crate) fn carry_out(
         ran_out: timers::ran_out(input.event),
         stop_asked: effect.stop,
         started,
-        state_changes: timers::state_changes(stored.state, effect.to),
+        state_changes: stored.state != effect.to,
     };
     let running = sets.running_after();
-    let limits = settings.limits;
     let call = effect.hold.held(stored.call, request, input.media);
     Carried {
         next: PrivateRecord {
             state: effect.to,
             running,
-            counters: counters_after(running, started, effect.again, limits, stored.counters),
+            counters: counters_after(
+                running,
+                started,
+                effect.again,
+                settings.limits,
+                stored.counters,
+            ),
             call,
         },
         stop: sets.stopped(),

@@ -1,7 +1,7 @@
 // What becomes of the timers, by the rules for all rows.
 ghost use Rattle.std.specs.Prelude.{◌≡◌};
 ghost use Rattle.private_record.specs.Phases.{has as has_timer};
-ghost use Rattle.private_call.specs.Carried.{ran_out_by, private_timer_out, changes, started_of};
+ghost use Rattle.private_call.specs.Carried.{ran_out_by, private_timer_out, started_of};
 ghost use Rattle.private_call.specs.Carried.{timer_facts, stopped_of, running_after};
 
 use call::timers::TimerFacts;
@@ -32,20 +32,13 @@ pub(crate) fn ran_out(event: Event) -> Timers
     }
 }
 
-// Whether the state changes.
-pub(crate) fn state_changes(state: State, to: State) -> bool
-    ensures { result ≡ changes state to }
-{
-    state != to
-}
-
 // What starts: what the row starts, and TFP7 where it enters P1.
 #[tactic(auto, unfolding(crate::specs::Carried::started_of))]
 pub(crate) fn started(state: State, to: State, start: Timers) -> Timers
     ensures { result ≡ started_of state to start }
 {
     Timers {
-        tfp7: start.tfp7 || (state_changes(state, to) && to == State::P1),
+        tfp7: start.tfp7 || (state != to && to == State::P1),
         ..start
     }
 }

@@ -7,7 +7,10 @@ use native.Mathlib.Omega.{arith}
 use lib.ListN.{length}
 use lib.Dec.{eqb}
 use borrow.Author.Tests.{eq-eqb, ne_eqb, eqb-true, eqb-false}
+use Rattle.frame.specs.Refusal.{refusal_number}
 use Rattle.frame.specs.declared.Media.{Media}
+use Rattle.frame.specs.declared.refusal.Refusal.{Refusal}
+use Rattle.frame.specs.declared.refusal.Refusal.TheVariants.{NotEnded, NotDigits, NoKind, WrongLength, WrongField, NoRoom, WrongSetting, WrongArgument, NotWellFormed, NoChoice}
 use Rattle.writer.specs.Lent.{lent_after}
 use Rattle.call.specs.declared.Settings.{Settings}
 use Rattle.call.specs.declared.Input.{Input}
@@ -25,6 +28,22 @@ by_cases n moved refused P f g = go (eqb n 0) refl
     go : (b : Bool) → eqb n 0 ≡ b → P (cond b moved (refused n))
     go true t = f (eqb-true n 0 t)
     go false t = g (eqb-false n 0 t)
+
+-- no refusal has the number 0
+pub refusal-given : (refusal : Refusal) → refusal_number refusal ≡ 0 → ⊥
+refusal-given refusal e = eqb-false (refusal_number refusal) 0 (go refusal) e
+  where
+    go : (refusal : Refusal) → eqb (refusal_number refusal) 0 ≡ false
+    go NotEnded = refl
+    go NotDigits = refl
+    go NoKind = refl
+    go WrongLength = refl
+    go WrongField = refl
+    go NoRoom = refl
+    go WrongSetting = refl
+    go WrongArgument = refl
+    go NotWellFormed = refl
+    go NoChoice = refl
 
 -- where nothing is written, every byte is as lent
 pub nothing_lent : (n : ℕ) (out : List ℕ) → lent_after n [] out ≡ out

@@ -1,6 +1,6 @@
-// What becomes of a timer in a step of either machine: the rules for all rows.
-ghost use Rattle.std.specs.Prelude.{◌≡◌};
-ghost use Rattle.call.specs.Timing.{is_stopped, runs_after};
+// What becomes of the timers in a step of either machine: the rules for all rows.
+ghost use Rattle.std.specs.Prelude.{◌≡◌, Bool};
+ghost use Rattle.call.specs.Timing.{is_stopped, runs_after, timer_facts, stopped_of, running_after};
 
 // What the rules ask of one timer.
 #[derive(Clone, Copy, PartialEq, Eq)]
@@ -32,5 +32,75 @@ impl TimerFacts {
         ensures { result ≡ runs_after self }
     {
         self.started || (self.was_running && !self.is_stopped() && !self.ran_out)
+    }
+}
+
+// A set of the timers of one machine.
+pub trait TimerSet: Copy {
+    // The timers of the machine.
+    type Timer: Copy;
+
+    // Whether a timer is in a set.
+    ghost has: { Self → Self.Timer → Bool };
+
+    // Whether a timer is in the set.
+    fn has(self, timer: Self::Timer) -> bool
+        ensures { result ≡ has self timer };
+}
+
+// A set that a rule for one timer makes.
+pub trait SetByRule: TimerSet {
+    // The set of the timers that pass a test.
+    ghost set_of: { (Self.Timer → Bool) → Self };
+
+    // The set of the timers that a rule takes, each by what the rules ask of it.
+    fn by_rule<F: Fn(TimerFacts) -> bool>(sets: TimerSets<Self>, rule: F) -> Self
+        requires { F.IsAlwaysCallable rule }
+        ensures { (timer : Self.Timer) → F.post rule (timer_facts Self.has sets timer) (Self.has result timer) };
+
+    // A set has its timers, and nothing else.
+    ghost its_timers: { (set : Self) → set_of (Self.has set) ≡ set };
+}
+
+// What the rules ask of the timers of a machine: the sets, and whether the state changes.
+#[derive(Clone, Copy, PartialEq, Eq)]
+pub struct TimerSets<S> {
+    pub was_running: S,
+    pub ran_out: S,
+    pub stop_asked: S,
+    pub started: S,
+    pub state_changes: bool,
+}
+
+impl<S: TimerSet> TimerSets<S> {
+    // What they ask of one timer.
+    pub fn of(self, timer: S::Timer) -> TimerFacts
+        ensures { result ≡ timer_facts S.has self timer }
+    {
+        TimerFacts {
+            was_running: self.was_running.has(timer),
+            ran_out: self.ran_out.has(timer),
+            stop_asked: self.stop_asked.has(timer),
+            started: self.started.has(timer),
+            state_changes: self.state_changes,
+        }
+    }
+}
+
+impl<S: SetByRule> TimerSets<S> {
+    // What stops.
+    #[tactic(auto, unfolding(crate::specs::Timing::stopped_of))]
+    pub fn stopped(self) -> S
+        ensures { result ≡ stopped_of S.has S.set_of self }
+    {
+        S::by_rule(self, |facts| facts.is_stopped())
+    }
+
+    // What runs afterwards.
+    #[tactic(auto, unfolding(crate::specs::Timing::running_after))]
+    pub fn running_after(self) -> S
+        ensures { result ≡ running_after S.has S.set_of self }
+    {
+        S::by_rule(self, |facts| facts.runs_after())
     }
 }

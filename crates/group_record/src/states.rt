@@ -1,8 +1,12 @@
 // The group record: its state, its running timers, its call and the call's media.
-ghost use Rattle.std.specs.Prelude.{◌≡◌};
-ghost use Rattle.group_record.specs.States.{running_of};
+ghost use Rattle.std.specs.Prelude.{◌≡◌, refl};
+ghost use Rattle.call.specs.Timing.{timer_facts};
+ghost use Rattle.call.specs.declared.GroupTimer.{GroupTimer};
+ghost use Rattle.group_record.specs.States.{has, set_of, running_of};
 ghost use Rattle.group_record.specs.Formed.{cleared_record};
 
+use call::GroupTimer;
+use call::timers::{SetByRule, TimerFacts, TimerSet, TimerSets};
 use frame::{GroupCall, Media};
 
 // The states: start-stop, ongoing, and two in which the user is asked, S4 without confirm and S5 with it.
@@ -67,6 +71,39 @@ impl Timers {
         tfg6: true,
         ..Timers::NONE
     };
+}
+
+impl TimerSet for Timers {
+    type Timer = GroupTimer;
+
+    ghost has = { has };
+
+    // Whether a timer is in the set.
+    fn has(self, timer: GroupTimer) -> bool {
+        match timer {
+            GroupTimer::Tfg2 => self.tfg2,
+            GroupTimer::Tfg4 => self.tfg4,
+            GroupTimer::Tfg6 => self.tfg6,
+        }
+    }
+}
+
+impl SetByRule for Timers {
+    ghost set_of = { set_of };
+
+    // The set of the timers that a rule takes.
+    fn by_rule<F: Fn(TimerFacts) -> bool>(sets: TimerSets<Timers>, rule: F) -> Timers
+        requires { F.IsAlwaysCallable rule }
+        ensures { (timer : GroupTimer) → F.post rule (timer_facts has sets timer) (has result timer) }
+    {
+        Timers {
+            tfg2: rule(sets.of(GroupTimer::Tfg2)),
+            tfg4: rule(sets.of(GroupTimer::Tfg4)),
+            tfg6: rule(sets.of(GroupTimer::Tfg6)),
+        }
+    }
+
+    ghost its_timers = { λ set. refl };
 }
 
 // The group record; its call and media are the nine fields of a group call.

@@ -1,9 +1,12 @@
 // The private record: its state, its running timers, its counters and its call; and the phases.
-ghost use Rattle.std.specs.Prelude.{◌≡◌};
+ghost use Rattle.std.specs.Prelude.{◌≡◌, refl};
 ghost use Rattle.private_record.specs.Formed.{cleared_record};
-ghost use Rattle.private_record.specs.Phases.{phase_of, running_of};
+ghost use Rattle.call.specs.Timing.{timer_facts};
+ghost use Rattle.call.specs.declared.PrivateTimer.{PrivateTimer};
+ghost use Rattle.private_record.specs.Phases.{has, set_of, phase_of, running_of};
 
-use call::Counters;
+use call::timers::{SetByRule, TimerFacts, TimerSet, TimerSets};
+use call::{Counters, PrivateTimer};
 use frame::{Media, Parties};
 
 // The states: start-stop, ignoring same id, waiting for response, releasing, ongoing, pending.
@@ -74,6 +77,45 @@ impl Timers {
         tfp7: true,
         ..Timers::NONE
     };
+}
+
+impl TimerSet for Timers {
+    type Timer = PrivateTimer;
+
+    ghost has = { has };
+
+    // Whether a timer is in the set.
+    fn has(self, timer: PrivateTimer) -> bool {
+        match timer {
+            PrivateTimer::Tfp1 => self.tfp1,
+            PrivateTimer::Tfp2 => self.tfp2,
+            PrivateTimer::Tfp3 => self.tfp3,
+            PrivateTimer::Tfp4 => self.tfp4,
+            PrivateTimer::Tfp5 => self.tfp5,
+            PrivateTimer::Tfp7 => self.tfp7,
+        }
+    }
+}
+
+impl SetByRule for Timers {
+    ghost set_of = { set_of };
+
+    // The set of the timers that a rule takes.
+    fn by_rule<F: Fn(TimerFacts) -> bool>(sets: TimerSets<Timers>, rule: F) -> Timers
+        requires { F.IsAlwaysCallable rule }
+        ensures { (timer : PrivateTimer) → F.post rule (timer_facts has sets timer) (has result timer) }
+    {
+        Timers {
+            tfp1: rule(sets.of(PrivateTimer::Tfp1)),
+            tfp2: rule(sets.of(PrivateTimer::Tfp2)),
+            tfp3: rule(sets.of(PrivateTimer::Tfp3)),
+            tfp4: rule(sets.of(PrivateTimer::Tfp4)),
+            tfp5: rule(sets.of(PrivateTimer::Tfp5)),
+            tfp7: rule(sets.of(PrivateTimer::Tfp7)),
+        }
+    }
+
+    ghost its_timers = { λ set. refl };
 }
 
 // What is known of a call.

@@ -7,6 +7,7 @@ use native.Mathlib.Omega.{arith}
 use lib.Dec.{eqb}
 use Rattle.std.specs.Prelude.{Option, Some}
 use Rattle.frame.specs.declared.Media.{Media}
+use Rattle.call.specs.Timing.{stopped_of, running_after}
 use Rattle.call.specs.Settings.{settings_good}
 use Rattle.call.specs.declared.Settings.{Settings}
 use Rattle.call.specs.declared.Verdicts.{Verdicts}
@@ -26,7 +27,7 @@ use Rattle.private_rows.specs.declared.Row.TheVariants.{R28}
 use Rattle.private_rows.specs.declared.causes.Cause.{Cause}
 use Rattle.private_rows.specs.declared.causes.Facts.{Facts}
 use Rattle.private_call.specs.Effects.{effect_of}
-use Rattle.private_call.specs.Carried.{started_of, stopped_of, running_after, counters_after, started_by, stopped_by, running_by, carry_out}
+use Rattle.private_call.specs.Carried.{started_of, counters_after, started_by, stopped_by, running_by, carry_out}
 use Rattle.private_call.specs.Step.{step_of}
 use Rattle.private_call.specs.Running.{expiry}
 use Rattle.stepping.specs.Answer.{Answer}

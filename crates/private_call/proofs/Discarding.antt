@@ -5,12 +5,13 @@ use mathlib.Core.Bool.{Bool, true, false, not}
 use borrow.Author.Tests.{eqb-true, eq-eqb}
 use Rattle.std.specs.Prelude.{None}
 use Rattle.frame.proofs.Laws.{and_split}
+use Rattle.call.specs.Timing.{stopped_of, running_after, timer_facts}
 use Rattle.call.specs.declared.Counters.{Counters}
 use Rattle.call.specs.declared.Settings.{Settings}
 use Rattle.call.specs.declared.PrivateTimer.{PrivateTimer}
 use Rattle.call.specs.declared.Input.{Input}
 use Rattle.call.proofs.Timing.{stops-none, runs-on-one}
-use Rattle.private_record.specs.Phases.{state_number, no_timer, running_of, phase_of}
+use Rattle.private_record.specs.Phases.{state_number, has, no_timer, running_of, phase_of}
 use Rattle.private_record.specs.Formed.{counter_good, counters_good}
 use Rattle.private_record.specs.declared.states.State.{State}
 use Rattle.private_record.specs.declared.states.Timers.{Timers}
@@ -21,7 +22,7 @@ use Rattle.private_rows.specs.Causes.{cause_of, facts_of}
 use Rattle.private_rows.specs.Rows.{row_of}
 use Rattle.private_rows.specs.declared.causes.Cause.{Cause}
 use Rattle.private_call.specs.Effects.{effect_of}
-use Rattle.private_call.specs.Carried.{ran_out_by, changes, started_of, stopped_of, running_after, counter_after, counters_after, started_by, timer_facts, timers_by, stopped_by, running_by, carry_out}
+use Rattle.private_call.specs.Carried.{ran_out_by, changes, started_of, counter_after, counters_after, started_by, timers_by, stopped_by, running_by, carry_out}
 use Rattle.stepping.specs.declared.Carried.{Carried}
 use Rattle.private_call.proofs.Brought.{out_of, ran-out-of}
 use Rattle.private_call.proofs.Settling.{less, Sound, rows-sound}
@@ -62,7 +63,7 @@ starts-nothing state = rw (unchanged state)
 stops-nothing : (state : State) (was out : Timers) → stopped_by state was out (effect_of None state) ≡ no_timer
 unfolding stopped_of
 stops-nothing state was out =
-    let x = timer_facts (timers_by state was out (effect_of None state)) in
+    let x = timer_facts has (timers_by state was out (effect_of None state)) in
     let same = unchanged state in
     λ i. record {
       tfp1 = stops-none (x PrivateTimer.Tfp1) refl same i;
@@ -77,7 +78,7 @@ stops-nothing state was out =
 runs_on : (state : State) (was out : Timers) → running_by state was out (effect_of None state) ≡ less was out
 unfolding running_after
 runs_on state was out =
-    let x = timer_facts (timers_by state was out (effect_of None state)) in
+    let x = timer_facts has (timers_by state was out (effect_of None state)) in
     let same = unchanged state in
     let none = starts-nothing state in
     λ i. record {

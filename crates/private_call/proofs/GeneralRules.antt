@@ -5,35 +5,35 @@ use mathlib.Core.List.{List}
 use mathlib.Core.Bool.{Bool, true, false, not, ◌&&◌, ◌||◌}
 use lib.Dec.{eqb}
 use Rattle.std.specs.Prelude.{Option}
-use Rattle.call.specs.Timing.{is_stopped, runs_after}
+use Rattle.call.specs.Timing.{is_stopped, runs_after, stopped_of, running_after, timer_facts}
 use Rattle.call.specs.declared.Settings.{Settings}
 use Rattle.call.specs.declared.PrivateTimer.{PrivateTimer}
 use Rattle.call.specs.declared.Input.{Input}
 use Rattle.call.proofs.Timing.{change-stops-one, spares-one}
-use Rattle.private_record.specs.Phases.{state_number, has}
+use Rattle.private_record.specs.Phases.{state_number, has, set_of}
 use Rattle.private_record.specs.declared.states.PrivateRecord.{PrivateRecord}
 use Rattle.private_record.proofs.WellFormed.{has-set}
 use Rattle.private_rows.specs.Rows.{row_of}
 use Rattle.private_rows.specs.declared.Row.{Row}
 use Rattle.private_call.specs.Effects.{effect_of}
-use Rattle.private_call.specs.Carried.{ran_out_by, changes, started_of, stopped_of, running_after, counters_after, timer_facts, timers_by, carry_out}
+use Rattle.private_call.specs.Carried.{ran_out_by, changes, started_of, counters_after, timers_by, carry_out}
 use Rattle.private_call.specs.Step.{step_number, step_of}
 use Rattle.private_call.specs.NoReply.{Counter, cfp1, cfp3, cfp4, count_in, timer_of}
 use Rattle.private_call.specs.declared.effects.Effect.{Effect}
-use Rattle.private_call.specs.declared.timers.TimerSets.{TimerSets}
+use Rattle.call.specs.declared.timers.TimerSets.{TimerSets}
 use Rattle.stepping.specs.Answer.{Answer}
 use Rattle.private_call.proofs.Steps.{step-done}
 use Rattle.private_record.specs.declared.states.Timers.{Timers}
 
 -- whether a timer is stopped
-stopped-one : (x : TimerSets) (t : PrivateTimer) → has (stopped_of x) t ≡ is_stopped (timer_facts x t)
+stopped-one : (x : TimerSets Timers) (t : PrivateTimer) → has (stopped_of has set_of x) t ≡ is_stopped (timer_facts has x t)
 unfolding stopped_of
-stopped-one x = has-set (λ t. is_stopped (timer_facts x t))
+stopped-one x = has-set (λ t. is_stopped (timer_facts has x t))
 
 -- whether a timer runs afterwards
-running-one : (x : TimerSets) (t : PrivateTimer) → has (running_after x) t ≡ runs_after (timer_facts x t)
+running-one : (x : TimerSets Timers) (t : PrivateTimer) → has (running_after has set_of x) t ≡ runs_after (timer_facts has x t)
 unfolding running_after
-running-one x = has-set (λ t. runs_after (timer_facts x t))
+running-one x = has-set (λ t. runs_after (timer_facts has x t))
 
 module _ (s : Settings) (p : PrivateRecord) (i : Input) (row : Option Row) where
   -- what the row does
@@ -41,7 +41,7 @@ module _ (s : Settings) (p : PrivateRecord) (i : Input) (row : Option Row) where
   effect = effect_of row p.state
 
   -- what the rules ask of the timers
-  abbrev sets : TimerSets
+  abbrev sets : TimerSets Timers
   sets = timers_by p.state p.running (ran_out_by i.event) effect
 
   -- what runs afterwards is what was started, and what ran and was neither stopped nor ran out
@@ -57,13 +57,13 @@ module _ (s : Settings) (p : PrivateRecord) (i : Input) (row : Option Row) where
       → has (carry_out s p i row).start t ≡ false → has (ran_out_by i.event) t ≡ false → has (carry_out s p i row).stop t ≡ true
   unfolding carry_out
   change-stops t a b c d =
-      stopped-one sets t ∙ change-stops-one (timer_facts sets t) a b c d
+      stopped-one sets t ∙ change-stops-one (timer_facts has sets t) a b c d
 
   -- no step stops the timer whose expiry it is about
   ran-out-never-stopped : (t : PrivateTimer) → has (ran_out_by i.event) t ≡ true → has (carry_out s p i row).stop t ≡ false
   unfolding carry_out
   ran-out-never-stopped t e =
-      stopped-one sets t ∙ spares-one (timer_facts sets t) e
+      stopped-one sets t ∙ spares-one (timer_facts has sets t) e
 
   -- a counter without a running timer is 0
   counter-rests : (k : Counter) → has (carry_out s p i row).next.running (timer_of k) ≡ false → count_in k (carry_out s p i row).next.counters ≡ 0

@@ -11,6 +11,7 @@ use Rattle.std.specs.Prelude.{Option, Some, None}
 use Rattle.frame.specs.declared.Media.{Media}
 use Rattle.frame.proofs.Laws.{and_split}
 use Rattle.writer.specs.Lent.{at_front}
+use Rattle.call.specs.Timing.{stopped_of, running_after}
 use Rattle.call.specs.Settings.{settings_good}
 use Rattle.call.specs.declared.Settings.{Settings}
 use Rattle.call.specs.declared.Verdicts.{Verdicts}
@@ -35,7 +36,7 @@ use Rattle.private_rows.specs.declared.causes.Cause.{Cause}
 use Rattle.private_rows.specs.declared.causes.Facts.{Facts}
 use Rattle.private_rows.proofs.Meets.{same_row, found-is-met, quiet-expiry}
 use Rattle.private_call.specs.Effects.{effect_of}
-use Rattle.private_call.specs.Carried.{started_of, stopped_of, running_after, running_by, carry_out}
+use Rattle.private_call.specs.Carried.{started_of, running_by, carry_out}
 use Rattle.private_call.specs.Step.{number_before_sending, done_of, step_line, refused_of, discarded, moved_of, answer_met, step_number, step_of, step_buffer}
 use Rattle.private_call.specs.Running.{expiry, user_accepts}
 use Rattle.private_call.specs.NoReply.{Counter, cfp1, cfp3, cfp4, timer_of, phase_where}

@@ -9,6 +9,7 @@ use lib.ListN.{length, replicate}
 use Rattle.std.specs.Prelude.{Option, Some}
 use Rattle.frame.specs.declared.Media.{Media}
 use Rattle.frame.proofs.Laws.{and_split}
+use Rattle.call.specs.Timing.{running_after}
 use Rattle.call.specs.Settings.{limit_good, settings_good}
 use Rattle.call.specs.declared.Settings.{Settings}
 use Rattle.call.specs.declared.Verdicts.{Verdicts}
@@ -23,7 +24,7 @@ use Rattle.private_record.specs.declared.states.PrivateRecord.{PrivateRecord}
 use Rattle.private_record.proofs.WellFormed.{fit}
 use Rattle.private_rows.specs.Rows.{row_number}
 use Rattle.private_rows.specs.declared.Row.{Row}
-use Rattle.private_call.specs.Carried.{started_of, running_after, counters_after, carry_out}
+use Rattle.private_call.specs.Carried.{started_of, counters_after, carry_out}
 use Rattle.private_call.specs.Step.{step_line, step_of}
 use Rattle.private_call.specs.Running.{expiry, run_private, sent_private}
 use Rattle.private_call.specs.NoReply.{Counter, cfp1, cfp3, cfp4, count_in, timer_of, phase_where, line_repeated, Begins, by-R1, by-R8, by-R9, by-R20, by-R23, expiries, Roomy, at_most}

@@ -12,6 +12,7 @@ use Rattle.std.specs.Prelude.{Option, Some, None}
 use Rattle.frame.specs.declared.Media.{Media}
 use Rattle.frame.proofs.Frames.{length-line}
 use Rattle.writer.specs.Lent.{at_front}
+use Rattle.call.specs.Timing.{stopped_of, running_after}
 use Rattle.call.specs.Settings.{settings_good}
 use Rattle.call.specs.declared.Counters.{Counters}
 use Rattle.call.specs.declared.Settings.{Settings}
@@ -32,7 +33,7 @@ use Rattle.private_rows.specs.declared.Row.{Row}
 use Rattle.private_rows.specs.declared.Row.TheVariants.{R2, R3, R10, R11, R16, R17}
 use Rattle.private_rows.specs.declared.causes.Facts.{Facts}
 use Rattle.private_call.specs.Effects.{effect_of}
-use Rattle.private_call.specs.Carried.{private_timer_out, started_of, stopped_of, running_after, counters_after, one_more, started_by, running_by, carry_out}
+use Rattle.private_call.specs.Carried.{private_timer_out, started_of, counters_after, one_more, started_by, running_by, carry_out}
 use Rattle.private_call.specs.Step.{number_before_sending, step_of, step_buffer}
 use Rattle.private_call.specs.Running.{expiry, run_private, sent_private}
 use Rattle.private_call.specs.NoReply.{Counter, cfp1, cfp3, cfp4, count_in, timer_of, phase_where, repeated, line_repeated, expiries}

@@ -2,8 +2,9 @@
 use mathlib.Core.Path.{◌≡◌, refl}
 use mathlib.Core.Bool.{Bool, true, false, not, ◌&&◌, ◌||◌}
 use lib.Dec.{eqb}
-use Rattle.std.specs.Prelude.{Option}
+use Rattle.std.specs.Prelude.{Option, Some, None}
 use Rattle.frame.proofs.Laws.{and_split}
+use Rattle.call.specs.Timing.{stopped_of, running_after}
 use Rattle.call.proofs.Laws.{both_bools}
 use Rattle.private_record.specs.Phases.{state_number, has, set_of, same_timers, state_of, running_of}
 use Rattle.private_record.specs.Formed.{running_good, role_good}
@@ -17,7 +18,7 @@ use Rattle.private_rows.specs.declared.causes.Cause.{Cause}
 use Rattle.private_rows.specs.declared.causes.Facts.{Facts}
 use Rattle.private_rows.proofs.Meets.{each_row}
 use Rattle.private_call.specs.Effects.{effect_of}
-use Rattle.private_call.specs.Carried.{started_of, stopped_of, running_after, running_by}
+use Rattle.private_call.specs.Carried.{started_of, running_by}
 use Rattle.private_call.specs.declared.effects.Hold.{Hold}
 use Rattle.private_call.specs.declared.effects.Say.{Say}
 use Rattle.private_call.proofs.Brought.{out_of, brings_call, brings_media}
@@ -64,16 +65,16 @@ holds_one to Hold.Media = not (start_stop to)
 holds_one to Hold.Clear = false
 
 -- what a row says may be said: of a call held, or of a setup request that is brought
-abbrev pub may_say : Cause → State → Hold → Say → Bool
-may_say c to hold Say.Nothing = true
-may_say c to hold Say.SetupRequest = holds_one to hold
-may_say c to hold Say.Ringing = holds_one to hold
-may_say c to hold Say.Accept = holds_one to hold
-may_say c to hold Say.Release = holds_one to hold
-may_say c to hold Say.ReleaseAck = holds_one to hold
-may_say c to hold Say.AcceptAck = holds_one to hold
-may_say c to hold (Say.Reject reason) = holds_one to hold
-may_say c to hold Say.RejectOther = brings_call c
+abbrev pub may_say : Cause → State → Hold → Option Say → Bool
+may_say c to hold None = true
+may_say c to hold (Some Say.SetupRequest) = holds_one to hold
+may_say c to hold (Some Say.Ringing) = holds_one to hold
+may_say c to hold (Some Say.Accept) = holds_one to hold
+may_say c to hold (Some Say.Release) = holds_one to hold
+may_say c to hold (Some Say.ReleaseAck) = holds_one to hold
+may_say c to hold (Some Say.AcceptAck) = holds_one to hold
+may_say c to hold (Some (Say.Reject reason)) = holds_one to hold
+may_say c to hold (Some Say.RejectOther) = brings_call c
 
 -- by the row
 abbrev pub says : Phase → Cause → Option Row → Bool

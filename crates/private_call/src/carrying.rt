@@ -7,7 +7,7 @@ ghost use Rattle.private_record.specs.Formed.{call_request};
 
 use crate::effects::{Hold, Reason, Say, effect_of};
 use crate::timers;
-use crate::timers::TimerSets;
+use call::timers::TimerSets;
 use call::{Counters, Input, Request, Settings, request_of};
 use frame::{Media, Message, Parties};
 use private_record::states::{PrivateCall, PrivateRecord, Timers};
@@ -47,15 +47,14 @@ impl CounterFacts {
     fn after(self) -> u8
         ensures { result ≡ counter_after self }
     {
-        match self {
-            CounterFacts { runs: false, .. } => 0,
-            CounterFacts {
-                started: false,
-                was,
-                ..
-            } => was,
-            CounterFacts { again: false, .. } => Counters::LEAST,
-            CounterFacts { limit, was, .. } => one_more(limit, was),
+        if !self.runs {
+            0
+        } else if !self.started {
+            self.was
+        } else if self.again {
+            one_more(self.limit, self.was)
+        } else {
+            Counters::LEAST
         }
     }
 }
@@ -138,11 +137,10 @@ fn setup_request(call: PrivateCall) -> Message
 }
 
 // What is sent, from the call held afterwards; where another call is refused, with the parties of its request.
-fn sent(settings: Settings, say: Say, call: PrivateCall, other: Parties) -> Option<Message>
+fn sent(settings: Settings, say: Option<Say>, call: PrivateCall, other: Parties) -> Option<Message>
     ensures { result ≡ sent_of settings say call other }
 {
-    let message = match say {
-        Say::Nothing => return None,
+    let message = match say? {
         Say::SetupRequest => setup_request(call),
         Say::Ringing => Message::Ringing(call.parties),
         Say::Accept => Message::Accept(call.parties),

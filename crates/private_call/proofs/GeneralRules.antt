@@ -1,9 +1,10 @@
 -- The rules that hold for all rows, in the order in which they are told. Assumes nothing.
 use Prim.Native.Nat.{ℕ}
-use mathlib.Core.Path.{◌≡◌, refl, sym, ◌∙◌, subst}
+use mathlib.Core.Path.{◌≡◌, sym, ◌∙◌, subst}
 use mathlib.Core.List.{List}
-use mathlib.Core.Bool.{Bool, true, false, not, ◌&&◌, ◌||◌}
+use mathlib.Core.Bool.{true, false, not, ◌&&◌, ◌||◌}
 use lib.Dec.{eqb}
+use Rattle.std.proofs.Math.Bool.{or-true}
 use Rattle.std.specs.Prelude.{Option}
 use Rattle.call.specs.Timing.{is_stopped, runs_after, stopped_of, running_after, timer_facts}
 use Rattle.call.specs.declared.Settings.{Settings}
@@ -76,11 +77,7 @@ module _ (s : Settings) (p : PrivateRecord) (i : Input) (row : Option Row) where
   entering-starts : changes p.state (carry_out s p i row).next.state ≡ true → eqb (state_number (carry_out s p i row).next.state) 1 ≡ true
       → has (carry_out s p i row).start PrivateTimer.Tfp7 ≡ true
   unfolding carry_out started_of
-  entering-starts a b = rw (a, b) (either effect.start.tfp7)
-    where
-      either : (c : Bool) → (c || true) ≡ true
-      either true = refl
-      either false = refl
+  entering-starts a b = rw (a, b) (or-true effect.start.tfp7)
 
 -- ---- the same of the answer of a step that is not refused
 

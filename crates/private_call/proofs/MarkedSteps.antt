@@ -2,12 +2,13 @@
 use Prim.Native.Nat.{ℕ}
 use mathlib.Core.Path.{◌≡◌, refl, sym, ap, ◌∙◌}
 use mathlib.Core.List.{List}
-use mathlib.Core.Bool.{Bool, true, false, cond, true≢false, false≢true}
+use mathlib.Core.Bool.{Bool, true, false, cond, false≢true}
 use native.Mathlib.Omega.{arith}
 use lib.ListN.{length}
 use lib.Dec.{eqb}
 use borrow.Author.Tests.{eq-eqb, eqb-true}
 use Rattle.std.specs.Prelude.{Option, Some, None}
+use Rattle.std.proofs.lemmas.Option.{none-some}
 use Rattle.frame.specs.declared.Media.{Media}
 use Rattle.frame.proofs.Laws.{and_split}
 use Rattle.writer.specs.Lent.{at_front}
@@ -113,21 +114,17 @@ other-discarded s p i out t c =
 
 -- ---- a second accept
 
--- no row is R23
-none : {A : Type 0} → None ≡ Some R23 → A
-none e = absurd (true≢false (ap (λ (row : Option Row). eqb (row_number row) 0) e))
-
 -- only where TFP2 runs in P5 the user's accept meets R23
 accept-phase : (f : Phase) (x : Facts) → row_in f Cause.UserAccepts x ≡ Some R23 → f ≡ Phase.P5Tfp2
 unfolding row_in
-accept-phase Phase.P0 x e = none e
-accept-phase Phase.P1 x e = none e
-accept-phase Phase.P2Tfp1 x e = none e
-accept-phase Phase.P2Tfp2 x e = none e
-accept-phase Phase.P3 x e = none e
-accept-phase Phase.P4 x e = none e
+accept-phase Phase.P0 x e = absurd (none-some R23 e)
+accept-phase Phase.P1 x e = absurd (none-some R23 e)
+accept-phase Phase.P2Tfp1 x e = absurd (none-some R23 e)
+accept-phase Phase.P2Tfp2 x e = absurd (none-some R23 e)
+accept-phase Phase.P3 x e = absurd (none-some R23 e)
+accept-phase Phase.P4 x e = absurd (none-some R23 e)
 accept-phase Phase.P5Tfp2 x e = refl
-accept-phase Phase.P5Tfp4 x e = none e
+accept-phase Phase.P5Tfp4 x e = absurd (none-some R23 e)
 
 -- where TFP4 runs it meets no row
 accept-late : (x : Facts) → row_in Phase.P5Tfp4 Cause.UserAccepts x ≡ None

@@ -8,7 +8,7 @@ use Rattle.call.specs.declared.Event.{Event}
 use Rattle.call.specs.declared.Input.{Input}
 use Rattle.stepping.specs.Numbers.{number_of_tests, number_sending}
 use Rattle.stepping.specs.Sending.{line_sent}
-use Rattle.stepping.specs.Answer.{Answer, answer_by}
+use Rattle.stepping.specs.Answer.{Answer, refused_with, answer_by}
 use Rattle.stepping.specs.declared.Carried.{Carried}
 use Rattle.stepping.specs.declared.Stepped.{Stepped}
 use Rattle.private_record.specs.Phases.{no_timer}
@@ -42,7 +42,7 @@ number_with row s p i out = number_sending (tests_with row s p i) (carry_out s p
 
 -- a refusal: the record as it was, row 0, no timer, length 0
 abbrev pub refused_of : ℕ → PrivateRecord → Answer PrivateRecord Timers
-refused_of number p = record { number = number; row = 0; next = p; stop = no_timer; start = no_timer; length = 0 }
+refused_of number p = refused_with no_timer p number
 
 -- a discard is what a refusal is, with number 0
 abbrev pub discarded : PrivateRecord → Answer PrivateRecord Timers

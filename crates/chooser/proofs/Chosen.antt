@@ -14,8 +14,7 @@ use Rattle.reader.proofs.LineNumbers.{line-number-at-most}
 use Rattle.group_order.specs.Order.{is_better}
 use Rattle.group_order.proofs.Order.{one_of_two, either_way}
 use Rattle.chooser.specs.Choice.{line_announced, choosable, lines_choosable, choice_between, choice_of, number_between, choice_number, place, place_of}
-use Rattle.chooser.specs.declared.LineCall.{LineCall}
-use Rattle.chooser.specs.declared.LineCall.TheVariants.{Call, Nothing}
+use Rattle.std.specs.Prelude.{Option, Some, None}
 use Rattle.chooser.proofs.Laws.{neither-line, one_line, choosable-calls, exchanged, choosable-turned, choice-turned}
 use Rattle.chooser.specs.NoChoice.{Announces, NoChoice}
 use Rattle.chooser.proofs.Lines.{line-announces, announced-number, no-choice}
@@ -47,10 +46,10 @@ ten-number m n good h k e = go (eqb m 0) (eqb n 0) good refl refl e
 choosable-readable : (first second : List ℕ) → lines_choosable first second ≡ true → (line_number first ≡ 0) × (line_number second ≡ 0)
 choosable-readable first second e = go (line_announced first) (line_announced second) refl refl e
   where
-    go : (p q : LineCall) → line_announced first ≡ p → line_announced second ≡ q → choosable p q ≡ true → (line_number first ≡ 0) × (line_number second ≡ 0)
-    go (Call a) (Call b) h k f = (announced-number first a (line-announces first a h), announced-number second b (line-announces second b k))
-    go (Call a) Nothing h k f = absurd (false≢true f)
-    go Nothing q h k f = absurd (false≢true f)
+    go : (p q : Option GroupCall) → line_announced first ≡ p → line_announced second ≡ q → choosable p q ≡ true → (line_number first ≡ 0) × (line_number second ≡ 0)
+    go (Some a) (Some b) h k f = (announced-number first a (line-announces first a h), announced-number second b (line-announces second b k))
+    go (Some a) None h k f = absurd (false≢true f)
+    go None q h k f = absurd (false≢true f)
 
 -- so the number is 0 exactly where one can choose
 zero-exactly : (first second : List ℕ) → (choice_number first second ≡ 0) ↔ (lines_choosable first second ≡ true)
@@ -123,8 +122,8 @@ pub chosen-is-better : (first second : List ℕ) → choice_number first second 
 unfolding choice_of
 chosen-is-better first second e = go (line_announced first) (line_announced second) refl refl ((zero-exactly first second).0 e)
   where
-    go : (p q : LineCall) → line_announced first ≡ p → line_announced second ≡ q → choosable p q ≡ true → Chosen first second
-    go (Call a) (Call b) h k f =
+    go : (p q : Option GroupCall) → line_announced first ≡ p → line_announced second ≡ q → choosable p q ≡ true → Chosen first second
+    go (Some a) (Some b) h k f =
         let (group, identifiers) = choosable-calls a b f in
         let choice : choice_of first second ≡ cond (is_better a b) 1 2 = ap₂ choice_between h k ∙ ap (λ (x : Bool). cond x (cond (is_better a b) 1 2) 0) f in
         let (one, two) = better-exactly (choice_of first second) (is_better a b) (is_better b a) choice (either_way a b identifiers) in
@@ -139,8 +138,8 @@ chosen-is-better first second e = go (line_announced first) (line_announced seco
           second-exactly = two;
           one-better = one_of_two a b identifiers;
         }
-    go (Call a) Nothing h k f = absurd (false≢true f)
-    go Nothing q h k f = absurd (false≢true f)
+    go (Some a) None h k f = absurd (false≢true f)
+    go None q h k f = absurd (false≢true f)
 
 -- ---- the line handed back
 

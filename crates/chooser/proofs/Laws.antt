@@ -10,8 +10,7 @@ use Rattle.frame.specs.declared.GroupCall.{GroupCall}
 use Rattle.group_order.specs.Order.{is_better}
 use Rattle.group_order.proofs.Order.{either_way}
 use Rattle.chooser.specs.Choice.{line_announced, asked_of_line, calls_choosable, choosable, lines_choosable, calls_choice, choice_between, choice_of}
-use Rattle.chooser.specs.declared.LineCall.{LineCall}
-use Rattle.chooser.specs.declared.LineCall.TheVariants.{Call, Nothing}
+use Rattle.std.specs.Prelude.{Option, Some, None}
 
 -- ---- two calls
 
@@ -26,13 +25,13 @@ calls-kept a b h = rw h
 -- ---- what a choice asks
 
 -- it is the same whether all of a call is there or only what is asked of it
-asked-alone : (a b : LineCall) → choice_between (asked_of_line a) (asked_of_line b) ≡ choice_between a b
-asked-alone (Call a) (Call b) = refl
-asked-alone (Call a) Nothing = refl
-asked-alone Nothing b = refl
+asked-alone : (a b : Option GroupCall) → choice_between (asked_of_line a) (asked_of_line b) ≡ choice_between a b
+asked-alone (Some a) (Some b) = refl
+asked-alone (Some a) None = refl
+asked-alone None b = refl
 
 -- so it can be made by what is asked of two lines
-pub by-asked : (p q : LineCall) (first second : List ℕ) → p ≡ asked_of_line (line_announced first) → q ≡ asked_of_line (line_announced second)
+pub by-asked : (p q : Option GroupCall) (first second : List ℕ) → p ≡ asked_of_line (line_announced first) → q ≡ asked_of_line (line_announced second)
     → choice_between p q ≡ choice_of first second
 unfolding choice_of
 by-asked p q first second e f = ap₂ choice_between e f ∙ asked-alone (line_announced first) (line_announced second)
@@ -40,25 +39,25 @@ by-asked p q first second e f = ap₂ choice_between e f ∙ asked-alone (line_a
 -- ---- where one can choose
 
 -- where neither is chosen, one cannot choose
-neither-chosen : (p q : LineCall) → choice_between p q ≡ 0 → choosable p q ≡ false
-neither-chosen (Call a) (Call b) e = go (calls_choosable a b) (is_better a b) e
+neither-chosen : (p q : Option GroupCall) → choice_between p q ≡ 0 → choosable p q ≡ false
+neither-chosen (Some a) (Some b) e = go (calls_choosable a b) (is_better a b) e
   where
     go : (x y : Bool) → ◌≡◌ {A = ℕ} (cond x (cond y 1 2) 0) 0 → x ≡ false
     go true true h = let z : ⊥ = omega arith in absurd z
     go true false h = let z : ⊥ = omega arith in absurd z
     go false y h = refl
-neither-chosen (Call a) Nothing e = refl
-neither-chosen Nothing q e = refl
+neither-chosen (Some a) None e = refl
+neither-chosen None q e = refl
 
 -- where one is chosen, one can choose
-one-chosen : (p q : LineCall) → (choice_between p q ≡ 0 → ⊥) → choosable p q ≡ true
-one-chosen (Call a) (Call b) f = go (calls_choosable a b) (is_better a b) f
+one-chosen : (p q : Option GroupCall) → (choice_between p q ≡ 0 → ⊥) → choosable p q ≡ true
+one-chosen (Some a) (Some b) f = go (calls_choosable a b) (is_better a b) f
   where
     go : (x y : Bool) → (◌≡◌ {A = ℕ} (cond x (cond y 1 2) 0) 0 → ⊥) → x ≡ true
     go true y h = refl
     go false y h = absurd (h refl)
-one-chosen (Call a) Nothing f = absurd (f refl)
-one-chosen Nothing q f = absurd (f refl)
+one-chosen (Some a) None f = absurd (f refl)
+one-chosen None q f = absurd (f refl)
 
 -- so it is with two lines: where neither is chosen, one cannot choose
 pub neither-line : (first second : List ℕ) → choice_of first second ≡ 0 → lines_choosable first second ≡ false
@@ -100,15 +99,15 @@ calls-turned a b =
     ap₂ (λ (x y : Bool). x && not y) (eqb-turned b.group a.group) (eqb-turned b.identifier a.identifier)
 
 -- and so between two messages
-pub choosable-turned : (p q : LineCall) → choosable q p ≡ choosable p q
-choosable-turned (Call a) (Call b) = calls-turned a b
-choosable-turned (Call a) Nothing = refl
-choosable-turned Nothing (Call b) = refl
-choosable-turned Nothing Nothing = refl
+pub choosable-turned : (p q : Option GroupCall) → choosable q p ≡ choosable p q
+choosable-turned (Some a) (Some b) = calls-turned a b
+choosable-turned (Some a) None = refl
+choosable-turned None (Some b) = refl
+choosable-turned None None = refl
 
 -- the same call is chosen either way
-pub choice-turned : (p q : LineCall) → choice_between q p ≡ exchanged (choice_between p q)
-choice-turned (Call a) (Call b) = go (calls_choosable a b) refl
+pub choice-turned : (p q : Option GroupCall) → choice_between q p ≡ exchanged (choice_between p q)
+choice-turned (Some a) (Some b) = go (calls_choosable a b) refl
   where
     better : (x y : Bool) → y ≡ not x → ◌≡◌ {A = ℕ} (cond y 1 2) (exchanged (cond x 1 2))
     better true y e = rw e
@@ -117,6 +116,6 @@ choice-turned (Call a) (Call b) = go (calls_choosable a b) refl
     go : (x : Bool) → calls_choosable a b ≡ x → calls_choice b a ≡ exchanged (cond x (cond (is_better a b) 1 2) 0)
     go true e = rw (calls-turned a b, e) (better (is_better a b) (is_better b a) (either_way a b (choosable-calls a b e).1))
     go false e = rw (calls-turned a b, e)
-choice-turned (Call a) Nothing = refl
-choice-turned Nothing (Call b) = refl
-choice-turned Nothing Nothing = refl
+choice-turned (Some a) None = refl
+choice-turned None (Some b) = refl
+choice-turned None None = refl

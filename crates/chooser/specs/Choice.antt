@@ -1,38 +1,37 @@
 -- Which of two announcement lines is chosen, and the number of the question. Assumes nothing.
-use Rattle.std.specs.Prelude.{ℕ, List, [], ◌∷◌, Bool, false, not, cond, ◌&&◌, eqb}
+use Rattle.std.specs.Prelude.{ℕ, List, [], ◌∷◌, Bool, false, not, cond, ◌&&◌, eqb, Option, Some, None}
 use Rattle.std.specs.Borrow.{Bor}
 use Rattle.frame.specs.Number.{first_given}
 use Rattle.frame.specs.declared.GroupCall.{GroupCall}
 use Rattle.frame.specs.declared.Message.{Message}
 use Rattle.frame.specs.declared.Message.TheVariants.{SetupRequest, Ringing, Accept, Reject, Release, ReleaseAck, AcceptAck, Announcement, GroupAccept}
 use Rattle.reader.specs.Line.{line_number, line_message}
-use Rattle.reader.specs.declared.Read.{Read}
-use Rattle.reader.specs.declared.Read.TheVariants.{Readable, Refused}
+use Rattle.chooser.specs.declared.Winner.{Winner}
+use Rattle.chooser.specs.declared.Winner.TheVariants.{First, Second}
+use Rattle.reader.specs.Line.{Read, Readable, Refused}
 use Rattle.group_order.specs.Order.{is_better}
-use Rattle.chooser.specs.declared.LineCall.{LineCall}
-use Rattle.chooser.specs.declared.LineCall.TheVariants.{Call, Nothing}
 
 -- ---- what a line announces
 
 -- an announcement, kind 08, announces its call; any other message nothing
-abbrev pub announced_by : Message → LineCall
-announced_by (SetupRequest p s) = Nothing
-announced_by (Ringing p) = Nothing
-announced_by (Accept p) = Nothing
-announced_by (Reject p reason) = Nothing
-announced_by (Release p) = Nothing
-announced_by (ReleaseAck p) = Nothing
-announced_by (AcceptAck p) = Nothing
-announced_by (Announcement call confirm) = Call call
-announced_by (GroupAccept a) = Nothing
+abbrev pub announced_by : Message → Option GroupCall
+announced_by (SetupRequest p s) = None
+announced_by (Ringing p) = None
+announced_by (Accept p) = None
+announced_by (Reject p reason) = None
+announced_by (Release p) = None
+announced_by (ReleaseAck p) = None
+announced_by (AcceptAck p) = None
+announced_by (Announcement call confirm) = Some call
+announced_by (GroupAccept a) = None
 
 -- a line that is refused announces nothing
-abbrev pub announced_in : Read → LineCall
+abbrev pub announced_in : Read → Option GroupCall
 announced_in (Readable m) = announced_by m
-announced_in (Refused n) = Nothing
+announced_in (Refused n) = None
 
 -- what a line announces
-abbrev pub line_announced : List ℕ → LineCall
+abbrev pub line_announced : List ℕ → Option GroupCall
 line_announced l = announced_in (line_message l)
 
 -- ---- what a choice asks of it
@@ -51,9 +50,9 @@ asked_of c = record {
 }
 
 -- of what a line announces
-abbrev pub asked_of_line : LineCall → LineCall
-asked_of_line (Call c) = Call (asked_of c)
-asked_of_line Nothing = Nothing
+abbrev pub asked_of_line : Option GroupCall → Option GroupCall
+asked_of_line (Some c) = Some (asked_of c)
+asked_of_line None = None
 
 -- ---- whether there is a choice
 
@@ -62,10 +61,10 @@ abbrev pub calls_choosable : GroupCall → GroupCall → Bool
 calls_choosable a b = eqb a.group b.group && not (eqb a.identifier b.identifier)
 
 -- two messages: both are announcements, and one can choose between their calls
-abbrev pub choosable : LineCall → LineCall → Bool
-choosable (Call a) (Call b) = calls_choosable a b
-choosable (Call a) Nothing = false
-choosable Nothing b = false
+abbrev pub choosable : Option GroupCall → Option GroupCall → Bool
+choosable (Some a) (Some b) = calls_choosable a b
+choosable (Some a) None = false
+choosable None b = false
 
 -- two lines: one can choose between their messages
 abbrev pub lines_choosable : List ℕ → List ℕ → Bool
@@ -78,14 +77,20 @@ abbrev pub calls_choice : GroupCall → GroupCall → ℕ
 calls_choice a b = cond (calls_choosable a b) (cond (is_better a b) 1 2) 0
 
 -- of two messages the one whose call is chosen
-abbrev pub choice_between : LineCall → LineCall → ℕ
-choice_between (Call a) (Call b) = calls_choice a b
-choice_between (Call a) Nothing = 0
-choice_between Nothing b = 0
+abbrev pub choice_between : Option GroupCall → Option GroupCall → ℕ
+choice_between (Some a) (Some b) = calls_choice a b
+choice_between (Some a) None = 0
+choice_between None b = 0
 
 -- of two lines the one whose message is chosen
 unfoldable pub choice_of : List ℕ → List ℕ → ℕ
 choice_of first second = choice_between (line_announced first) (line_announced second)
+
+-- the choice of a line as a number, 0 where neither is chosen
+abbrev pub chosen_number : Option Winner → ℕ
+chosen_number (Some First) = 1
+chosen_number (Some Second) = 2
+chosen_number None = 0
 
 -- ---- the number of the question
 

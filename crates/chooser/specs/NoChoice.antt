@@ -3,7 +3,7 @@ use Rattle.std.specs.Prelude.{ℕ, ◌≡◌, ◌⊎◌, List}
 use Rattle.frame.specs.declared.GroupCall.{GroupCall}
 use Rattle.frame.specs.declared.Message.TheVariants.{Announcement}
 use Rattle.reader.specs.Line.{line_message}
-use Rattle.reader.specs.declared.Read.TheVariants.{Readable}
+use Rattle.reader.specs.Line.{Readable}
 
 -- the line reads as the announcement of a call
 abbrev pub Announces : List ℕ → GroupCall → Type 0

@@ -11,7 +11,7 @@ use Rattle.call.specs.declared.Settings.{Settings}
 use Rattle.call.specs.declared.Input.{Input}
 use Rattle.private_record.specs.Phases as Phases
 use Rattle.group_record.specs.States as GroupStates
-use Rattle.demands.specs.Machines.{Answer, Machine, RowsHold, private_machine, group_machine}
+use Rattle.demands.specs.Machines.{Machine, RowsHold, private_machine, group_machine}
 use Rattle.demands.specs.ExactlyWhen.{ExactlyWhen, Among, step_table, StepExactlyWhen}
 use Rattle.demands.specs.NothingChanges.{StepNothingChanges}
 use Rattle.demands.specs.RowPlays.{lent}
@@ -22,6 +22,7 @@ use Rattle.demands.proofs.ExactlyWhen.{step-exactly-when}
 use Rattle.demands.proofs.NothingChanges.{step-nothing-changes}
 use Rattle.demands.proofs.GroupMachine.{group-step-exactly-when, group-step-nothing-changes}
 use Rattle.demands.proofs.Consequences.{passed-tests}
+use Rattle.stepping.specs.Answer.{Answer}
 
 -- ---- one table, one number
 

@@ -1,4 +1,5 @@
 -- Rows hold from every record; each row is told and no other; where some input is always heeded there is no standstill. Assumes nothing.
+use Rattle.std.specs.Prelude.{None, Some, Option}
 use mathlib.Core.Path.{◌≡◌, refl, sym, ◌∙◌, subst}
 use mathlib.Core.Logic.{◌⊎◌, inl, inr, ⊎_elim}
 use mathlib.Core.List.{List, [], ◌∷◌}
@@ -16,7 +17,7 @@ use Rattle.call.specs.Settings.{settings_good}
 use Rattle.call.specs.Meeting.{first_met}
 use Rattle.call.specs.declared.Settings.{Settings}
 use Rattle.call.specs.declared.Input.{Input}
-use Rattle.call.specs.declared.Send.{Send}
+use Rattle.frame.specs.declared.Message.{Message}
 use Rattle.stepping.specs.Numbers.{heard_good, arguments_good}
 use Rattle.stepping.specs.Sending.{line_sent}
 use Rattle.private_record.specs.declared.states.Phase.{Phase}
@@ -31,7 +32,7 @@ use Rattle.group_rows.specs.declared.Row.TheVariants as GroupRow
 use Rattle.group_rows.specs.declared.causes.Cause as GroupCause
 use Rattle.group_rows.specs.declared.causes.Facts as GroupFacts
 use Rattle.group_call.proofs.Steps as group
-use Rattle.demands.specs.Machines.{Answer, Machine, line_to_send, Unrefused, CarriesOut, RowsHold, KeepsWellFormed, private_machine, group_machine}
+use Rattle.demands.specs.Machines.{Machine, line_to_send, Unrefused, CarriesOut, RowsHold, KeepsWellFormed, private_machine, group_machine}
 use Rattle.demands.specs.ExactlyWhen.{ExactlyWhen, SettingOut, Unformed, FieldOut, ArgumentOut, StepRoomless, StepExactlyWhen}
 use Rattle.demands.specs.NothingChanges.{StepNothingChanges}
 use Rattle.demands.specs.RowPlays.{Play, play, lent, AllComeOut, plays}
@@ -44,6 +45,7 @@ use Rattle.demands.proofs.Machines.{private-carries-out}
 use Rattle.demands.proofs.GroupMachine.{group-carries-out, group-step-nothing-changes, group-step-exactly-when}
 use Rattle.demands.proofs.RowPlays.{plays-come-out}
 use Rattle.demands.proofs.GroupPlays.{group-plays-come-out}
+use Rattle.stepping.specs.Answer.{Answer}
 
 -- ---- from every record
 
@@ -68,9 +70,9 @@ pub group-rows-hold : RowsHold group_machine
 group-rows-hold = rows-hold group_machine group-step-exactly-when group-carries-out
 
 -- what is sent fits where the longest line does
-line-fits : (sent : Send) (media : Media) (out : List ℕ) → longest_line ≤ length out → length (line_sent sent media) ≤ length out
-line-fits Send.Nothing media out h = zero-le
-line-fits (Send.Message m) media out h = let k = longest-line.0 m media in omega (arith, h, k)
+line-fits : (sent : Option Message) (media : Media) (out : List ℕ) → longest_line ≤ length out → length (line_sent sent media) ≤ length out
+line-fits None media out h = zero-le
+line-fits (Some m) media out h = let k = longest-line.0 m media in omega (arith, h, k)
 
 -- an input that is not refused, and whose row leads to another state, is heeded
 pub heeded-by-row : (M : Machine) → RowsHold M → (s : Settings) (p : M.Stored) (i : Input) → Unrefused M s p i → (M.carried s p i).number ≡ 0

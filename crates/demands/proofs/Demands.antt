@@ -8,7 +8,7 @@ use Rattle.group_call.specs.Hearing.{Build, promised}
 use Rattle.demands.specs.Machines.{private_machine, group_machine}
 use Rattle.demands.specs.Consequences.{last_private_row, last_group_row}
 use Rattle.demands.specs.Demands.{NumbersGiven, RefusalsKeep, Demand1, OneLine, ByTheRows, MeetsDemands, Demand2, Demand3}
-use Rattle.demands.specs.Builds.{BuildOf, stepped_as, as_step}
+use Rattle.demands.specs.Builds.{BuildOf, as_step}
 use Rattle.demands.specs.SameCall.{IsPromised, BestCall, SameCall, AnyOrder}
 use Rattle.demands.proofs.ExactlyWhen.{line-exactly-when, read-exactly-when, write-exactly-when, send-exactly-when, answer-exactly-when, step-exactly-when}
 use Rattle.demands.proofs.Choosing.{choose-number-exactly-when}
@@ -125,7 +125,7 @@ kept P holds b is = subst P (sym (λ j s g i out. is s g i out j)) holds
 -- a build that meets the other demands is the machine, so its answers are those that are promised
 is-promised : (b : BuildOf group_machine) → MeetsDemands group_machine b → IsPromised (as_step b)
 is-promised b m s g i out =
-    let e = (group-shuts-out group-by-the-rows).one_build b m s g i out in λ j. (stepped_as (e.0 j), e.1 j)
+    let e = (group-shuts-out group-by-the-rows).one_build b m s g i out in λ j. (e.0 j, e.1 j)
 
 -- two cabs that know of the same calls end in the same one, and of two lines that of the better call is given
 pub demand-3 : Demand3

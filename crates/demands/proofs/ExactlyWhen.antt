@@ -1,4 +1,5 @@
 -- The numbers 1 to 9 are given exactly when, in the order told. Assumes nothing.
+use Rattle.std.specs.Prelude.{None, Some, Option}
 use mathlib.Core.Path.{◌≡◌, refl, sym, ap, ◌∙◌, subst}
 use mathlib.Core.Logic.Iff
 use mathlib.Core.Logic.{◌⊎◌, inr}
@@ -26,7 +27,6 @@ use Rattle.call.specs.Settings.{settings_good}
 use Rattle.call.specs.Request.{request_of}
 use Rattle.call.specs.declared.Settings.{Settings}
 use Rattle.call.specs.declared.Input.{Input}
-use Rattle.call.specs.declared.Send.{Send}
 use Rattle.stepping.specs.Numbers.{heard_good, arguments_good}
 use Rattle.stepping.specs.Sending.{send_told}
 use Rattle.private_record.specs.declared.states.PrivateRecord.{PrivateRecord}
@@ -131,8 +131,8 @@ false-reflects b = (not-true b, λ e. ap not e)
 -- ---- 8
 
 -- the row is R1
-first-reflects : (s : Settings) (p : PrivateRecord) (i : Input) → Reflects (eqb (row_number (row_of s p i)) 1) (row_of s p i ≡ R1)
-first-reflects s p i = (same_row (row_of s p i) R1, λ e. eq-eqb (row_number (row_of s p i)) 1 (ap row_number e))
+first-reflects : (s : Settings) (p : PrivateRecord) (i : Input) → Reflects (eqb (row_number (row_of s p i)) 1) (row_of s p i ≡ (Some R1))
+first-reflects s p i = (same_row (row_of s p i) (Some R1), λ e. eq-eqb (row_number (row_of s p i)) 1 (ap row_number e))
 
 -- 8 of R1
 pub taken-reflects : (s : Settings) (p : PrivateRecord) (i : Input) → Reflects (identifier_taken s p i.event (row_of s p i)) (IdentifierStored s p i)
@@ -174,10 +174,10 @@ write-exactly-when m media out = table-exactly rows refl right
     right = (λ b. false-reflects (in_range m media), (λ b. ltb-reflects (length out) (length (line_of m media)), tt))
 
 -- what a step sends: the writer's numbers, or none
-pub send-exactly-when : (sent : Send) (media : Media) (out : List ℕ) → GivenExactlyWhen (send_told sent media out).number (send_table sent media out)
+pub send-exactly-when : (sent : Option Message) (media : Media) (out : List ℕ) → GivenExactlyWhen (send_told sent media out).number (send_table sent media out)
 unfolding written_of ExactlyWhen Among
-send-exactly-when Send.Nothing media out = record { answered = refl; exactly = (λ e. tt, λ u. refl) }
-send-exactly-when (Send.Message m) media out = write-exactly-when m media out
+send-exactly-when None media out = record { answered = refl; exactly = (λ e. tt, λ u. refl) }
+send-exactly-when (Some m) media out = write-exactly-when m media out
 
 -- the answer to a log: 6
 pub answer-exactly-when : (log out : List ℕ) → GivenExactlyWhen (answer_told log out).number (answer_table log out)

@@ -1,4 +1,5 @@
 -- From every well-formed record of the group call machine some input is heeded, and it never stands still. Assumes nothing.
+use Rattle.std.specs.Prelude.{Some}
 use mathlib.Core.Path.{◌≡◌, refl, sym, ap, ◌∙◌, subst}
 use mathlib.Core.Bool.{Bool, true, false}
 use Prim.Native.Nat.{ℕ, ◌≤◌}
@@ -27,7 +28,7 @@ use Rattle.group_rows.proofs.Meets.{found-is-met}
 use Rattle.group_call.specs.Effects.{effect_of}
 use Rattle.group_call.specs.Carried.{changes, carry_out}
 use Rattle.group_call.specs.Step.{change_too_early}
-use Rattle.group_call.specs.declared.Stepped.{Stepped}
+use Rattle.stepping.specs.Answer.{Answer}
 use Rattle.group_call.proofs.Steps.{answer-of-row, answer-told}
 use Rattle.demands.specs.Machines.{group_machine}
 use Rattle.demands.specs.GroupPlayed.{does_in_group}
@@ -35,6 +36,7 @@ use Rattle.demands.specs.Consequences.{IsHeeded, Heeds, NeverStill}
 use Rattle.demands.proofs.Reflects.{true-reflects}
 use Rattle.demands.proofs.GroupMachine.{early-reflects, group-keeps-well-formed}
 use Rattle.demands.proofs.Consequences.{group-rows-hold, heeded-by-row, never-still}
+use Rattle.group_record.specs.declared.states.Timers.{Timers}
 
 -- ---- what is heeded
 
@@ -63,7 +65,7 @@ heeded s g i f row t e r n h c =
       arguments = t.arguments;
       row = true-reflects (early-reflects s g i) (ap (change_too_early s g i.event) met ∙ n);
     }) (answer-told s g i).0 (subst (λ (k : ℕ). 1 ≤ k) (sym ((answer-told s g i).1 ∙ number)) h)
-    (ap (λ (x : Stepped). changes g.state x.next.state) (answer-of-row s g i (λ e. let z = sym number ∙ e in omega (arith, z, h)))
+    (ap (λ (x : Answer GroupRecord Timers). changes g.state x.next.state) (answer-of-row s g i (λ e. let z = sym number ∙ e in omega (arith, z, h)))
     ∙ (λ j. changes (e j) (effect_of (met j) (e j) (confirms s i)).to) ∙ c)
 
 -- ---- a start that is not refused
@@ -94,10 +96,10 @@ module _ (s : Settings) (g : GroupRecord) (h : settings_good s ≡ true) (w : is
 
   -- in S1 the user's start is heeded, in S3 the user who leaves, in S4 and S5 the user who rejects
   in-state : (f : State) → g.state ≡ f → SomeHeeded
-  in-state State.S1 e = by_row start State.S1 G1 (start-good s h) e refl refl (omega arith) refl
-  in-state State.S3 e = by_row GroupAction.Leave State.S3 G8 refl e refl refl (omega arith) refl
-  in-state State.S4 e = by_row GroupAction.Reject State.S4 G7 refl e refl refl (omega arith) refl
-  in-state State.S5 e = by_row GroupAction.Reject State.S5 G7 refl e refl refl (omega arith) refl
+  in-state State.S1 e = by_row start State.S1 (Some G1) (start-good s h) e refl refl (omega arith) refl
+  in-state State.S3 e = by_row GroupAction.Leave State.S3 (Some G8) refl e refl refl (omega arith) refl
+  in-state State.S4 e = by_row GroupAction.Reject State.S4 (Some G7) refl e refl refl (omega arith) refl
+  in-state State.S5 e = by_row GroupAction.Reject State.S5 (Some G7) refl e refl refl (omega arith) refl
 
 -- ---- the theorems
 

@@ -13,9 +13,9 @@ use Rattle.frame.specs.declared.GroupCall.{GroupCall}
 use Rattle.frame.specs.declared.Message.{Message}
 use Rattle.frame.specs.declared.Message.TheVariants.{SetupRequest, Ringing, Accept, Reject, Release, ReleaseAck, AcceptAck, Announcement, GroupAccept}
 use Rattle.reader.specs.Line.{number_of, reading, read_line}
-use Rattle.reader.specs.declared.Read.{Read}
-use Rattle.reader.specs.declared.Read.TheVariants.{Readable, Refused}
-use Rattle.reader.specs.declared.Reading.{Reading}
+use Rattle.reader.specs.Line.{Read}
+use Rattle.reader.specs.Line.{Readable, Refused}
+use Rattle.reader.specs.Line.{Reading}
 use Rattle.reader.proofs.OnlyLine.{line-is-the-only-one, number_read}
 use Rattle.reader.proofs.LineNumbers.{read_number}
 use Rattle.call.specs.Settings.{settings_good}
@@ -29,7 +29,7 @@ use Rattle.group_rows.specs.Causes.{message_cause, same_identifier}
 use Rattle.group_rows.specs.declared.causes.Cause.{Cause}
 use Rattle.group_call.specs.Carried.{changed_by, later_change}
 use Rattle.group_call.specs.Hearing.{ongoing, input_of, hears, HeardLine, promised, answer_to, answer_hearing}
-use Rattle.group_call.specs.declared.Stepped.{Stepped}
+use Rattle.stepping.specs.Answer.{Answer}
 use Rattle.group_call.proofs.Steps.{keeps-well-formed}
 use Rattle.group_call.proofs.Unheeded.{other-discarded}
 use Rattle.group_call.proofs.Merging.{ongoing-is, merged, better-joined, not-better-discarded, same-refreshed}
@@ -40,7 +40,7 @@ abbrev pub Brings : Settings → List ℕ → Call → Type 0
 Brings s line c = Announcing line c × (c.0.group ≡ s.own_group)
 
 -- what a line does to a cab in a call: to its record g, with the answer and the buffer that it gets
-pub record AfterLine (s : Settings) (g : GroupRecord) (x : HeardLine) (answer : Stepped × List ℕ) : Type 0 where
+pub record AfterLine (s : Settings) (g : GroupRecord) (x : HeardLine) (answer : Answer GroupRecord Timers × List ℕ) : Type 0 where
   -- the cab is still in a call
   pub in_call : InCall s answer.0.next
   -- the answer is the line's number, and nothing is sent
@@ -120,7 +120,7 @@ module _ (s : Settings) (stored : GroupCall) (own : Media) (x : HeardLine) (good
   g = ongoing stored own
 
   -- a line that leaves the record as it was, and brings nothing better
-  keeps : (answer : Stepped × List ℕ) → answer.0.next ≡ g → Unsent x answer
+  keeps : (answer : Answer GroupRecord Timers × List ℕ) → answer.0.next ≡ g → Unsent x answer
       → ((c : Call) → Brings s x.line c → is_better c.0 stored ≡ false) → AfterLine s g x answer
   keeps answer e unsent worse =
       record {
@@ -132,10 +132,10 @@ module _ (s : Settings) (stored : GroupCall) (own : Media) (x : HeardLine) (good
       }
 
   -- the answer of a step, where it has number 0 and length 0 and the line was read
-  unsent-step : (m : Message) (media : Media) → read_line x.line ≡ reading m media → (answer : Stepped × List ℕ) (a : Stepped) → answer.0 ≡ a → a.number ≡ 0
+  unsent-step : (m : Message) (media : Media) → read_line x.line ≡ reading m media → (answer : Answer GroupRecord Timers × List ℕ) (a : Answer GroupRecord Timers) → answer.0 ≡ a → a.number ≡ 0
       → a.length ≡ 0 → answer.1 ≡ x.lent → Unsent x answer
   unsent-step m media e answer a d n l b =
-      (ap (λ (y : Stepped). y.number) d ∙ (n ∙ sym (read_number x.line m media e)), ap (λ (y : Stepped). y.length) d ∙ l, b)
+      (ap (λ (y : Answer GroupRecord Timers). y.number) d ∙ (n ∙ sym (read_number x.line m media e)), ap (λ (y : Answer GroupRecord Timers). y.length) d ∙ l, b)
 
   -- a line that brings nothing
   brings-none : (r : Read) (media : Media) → read_line x.line ≡ read_as r media → own_read s.own_group r ≡ false → (c : Call) → Brings s x.line c
@@ -150,13 +150,13 @@ module _ (s : Settings) (stored : GroupCall) (own : Media) (x : HeardLine) (good
       let ranged = (line-is-the-only-one x.line m media e).1.ranged in
       let d = other-discarded s g (input_of (Event.Message m) media x.verdicts) x.lent
       (record { settings = good; formed = formed; message = ranged; arguments = refl }) (unbrought s.own_group m f) in
-      keeps _ (ap (λ (a : Stepped). a.next) d.0) (unsent-step m media e _ _ d.0 refl refl d.1) (brings-none (Readable m) media e f)
+      keeps _ (ap (λ (a : Answer GroupRecord Timers). a.next) d.0) (unsent-step m media e _ _ d.0 refl refl d.1) (brings-none (Readable m) media e f)
 
   -- a call that the line brings is joined
-  joins : (call : GroupCall) (media : Media) (answer : Stepped × List ℕ) → answer.0 ≡ merged call media → Unsent x answer
+  joins : (call : GroupCall) (media : Media) (answer : Answer GroupRecord Timers × List ℕ) → answer.0 ≡ merged call media → Unsent x answer
       → is_well_formed s answer.0.next ≡ true → Brings s x.line (call, media) → is_better call stored ≡ true → AfterLine s g x answer
   joins call media answer e unsent w m better =
-      let n : answer.0.next ≡ ongoing call media = ap (λ (a : Stepped). a.next) e in
+      let n : answer.0.next ≡ ongoing call media = ap (λ (a : Answer GroupRecord Timers). a.next) e in
       record {
         in_call = record { settings = good; formed = w; ongoing = ap (λ (h : GroupRecord). h.state) n };
         silent = unsent;
@@ -191,7 +191,7 @@ module _ (s : Settings) (stored : GroupCall) (own : Media) (x : HeardLine) (good
       only : (c : Call) → Brings s x.line c → c ≡ (call, media)
       only c m = announced-one x.line c (call, media) m.0 brought.0
 
-      sent : {answer : Stepped × List ℕ} {a : Stepped} → answer.0 ≡ a → a.number ≡ 0 → a.length ≡ 0 → answer.1 ≡ x.lent → Unsent x answer
+      sent : {answer : Answer GroupRecord Timers × List ℕ} {a : (Answer GroupRecord Timers)} → answer.0 ≡ a → a.number ≡ 0 → a.length ≡ 0 → answer.1 ≡ x.lent → Unsent x answer
       sent {answer} {a} = unsent-step (Announcement call confirm) media e answer a
 
       go : (same better : Bool) → same_identifier call stored ≡ same → is_better call stored ≡ better
@@ -199,7 +199,7 @@ module _ (s : Settings) (stored : GroupCall) (own : Media) (x : HeardLine) (good
       go true better p q =
           let d = same-refreshed s stored own call confirm media x.verdicts x.lent good formed ranged o p in
           let is = alike (call, media) brought (eqb-true call.identifier stored.identifier p) in
-          keeps _ (ap (λ (a : Stepped). a.next) d.0 ∙ ap (λ (c : GroupCall). ongoing c own) (same-change call (ap (λ (c : Call). c.0) is)))
+          keeps _ (ap (λ (a : Answer GroupRecord Timers). a.next) d.0 ∙ ap (λ (c : GroupCall). ongoing c own) (same-change call (ap (λ (c : Call). c.0) is)))
           (sent d.0 refl refl d.1)
           (λ c m. ap (λ (k : Call). is_better k.0 stored) (only c m ∙ is) ∙ never-itself stored)
       go false true p q =
@@ -207,7 +207,7 @@ module _ (s : Settings) (stored : GroupCall) (own : Media) (x : HeardLine) (good
           joins call media _ d.0 (sent d.0 refl refl d.1) (keeps-well-formed s g (hears call confirm media x.verdicts) x.lent good formed) brought q
       go false false p q =
           let d = not-better-discarded s stored own call confirm media x.verdicts x.lent good formed ranged o p q in
-          keeps _ (ap (λ (a : Stepped). a.next) d.0) (sent d.0 refl refl d.1)
+          keeps _ (ap (λ (a : Answer GroupRecord Timers). a.next) d.0) (sent d.0 refl refl d.1)
           (λ c m. ap (λ (k : Call). is_better k.0 stored) (only c m) ∙ q)
 
   -- whatever message was read

@@ -28,7 +28,7 @@ use Rattle.private_record.proofs.WellFormed.{fit}
 use Rattle.private_rows.specs.Rows.{row_in}
 use Rattle.private_call.specs.Carried.{started_of, stopped_of, running_after, counters_after, carry_out}
 use Rattle.private_call.specs.Step.{step_of}
-use Rattle.private_call.specs.declared.Stepped.{Stepped}
+use Rattle.stepping.specs.Answer.{Answer}
 use Rattle.private_call.proofs.MarkedSteps.{expiry-discarded, second-accept, last-expiry}
 use Rattle.group_order.specs.Order.{rank_of}
 use Rattle.group_order.proofs.Order.{asymmetric, by_rank, by-identifier}
@@ -41,7 +41,7 @@ use Rattle.group_call.specs.Hearing.{hears}
 use Rattle.group_call.specs.declared.Stepped as GroupStepped
 use Rattle.group_call.proofs.Merging.{ongoing-is, better-joined}
 use Rattle.chooser.specs.Choice.{choice_of, choice_number}
-use Rattle.demands.specs.Machines.{Machine, private_answer, private_machine, group_machine}
+use Rattle.demands.specs.Machines.{Machine, private_machine, group_machine}
 use Rattle.demands.specs.ExactlyWhen.{ExactlyWhen, StepExactlyWhen}
 use Rattle.demands.specs.MarkedCases.{spoilt, writes, expiry_discarded, Holds, reading-holds, spoilt-holds, writing-holds, ringing, table, AllHold}
 use Rattle.demands.specs.Played.{crew_with, crew, ours, theirs, cfp1_at, stored, hears_signed, request, does, expires}
@@ -64,8 +64,8 @@ by_length {m} {media} {room} h =
     ap (λ (k : ℕ). first_given ((5, not (in_range m media)) ∷ (6, ltb k (length (line_of m media))) ∷ [])) (e ∙ sym (length-replicate room 0)) ∙ h)
 
 -- two answers of the private call machine that are one, and what else is told of them
-answers : {x y : Stepped} {A : Type 0} → (x ≡ y) × A → (private_answer x ≡ private_answer y) × A
-answers k = (ap private_answer k.0, k.1)
+answers : {x y : (Answer PrivateRecord Timers)} {A : Type 0} → (x ≡ y) × A → (private_answer x ≡ private_answer y) × A
+answers k = (k.0, k.1)
 
 -- a timer that does not run in a state, whatever runs there: its expiry is discarded
 quiet : {state : State} {timer : PrivateTimer} → ((w : Timers) → has (running_of (phase_in state w)) timer ≡ false) → Holds (expiry_discarded state timer)

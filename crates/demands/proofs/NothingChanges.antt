@@ -1,4 +1,5 @@
 -- A refusal changes nothing, for every public function that writes into a lent buffer. Assumes nothing.
+use Rattle.std.specs.Prelude.{Option}
 use mathlib.Core.Path.{◌≡◌, refl, sym, ap, ◌∙◌}
 use mathlib.Core.List.{List}
 use Prim.Native.Nat.{ℕ}
@@ -12,13 +13,12 @@ use Rattle.writer.specs.Writing.{write_number, written_of, buffer_of}
 use Rattle.log_answer.specs.Answer.{answer_of, answer_number, answer_told, answer_buffer}
 use Rattle.call.specs.declared.Settings.{Settings}
 use Rattle.call.specs.declared.Input.{Input}
-use Rattle.call.specs.declared.Send.{Send}
 use Rattle.stepping.specs.Sending.{line_sent, send_number, send_told, send_buffer}
 use Rattle.private_call.specs.Step.{step_number}
 use Rattle.private_call.proofs.Steps.{number-told, step-refused, row-0-keeps}
 use Rattle.private_call.proofs.MarkedSteps.{line-done}
 use Rattle.chooser.proofs.Chosen.{chosen-refused}
-use Rattle.demands.specs.Machines.{Machine, line_to_send, IsRefused, private_answer, private_machine}
+use Rattle.demands.specs.Machines.{Machine, line_to_send, IsRefused, private_machine}
 use Rattle.demands.specs.NothingChanges.{Done, NothingChanges, ReadNothingChanges, ChooseNothingChanges, ChoosesNone, StepKept, StepNothingChanges}
 
 -- ---- a text written into a lent buffer
@@ -38,7 +38,7 @@ unfolding answer_told answer_buffer
 answer-nothing-changes log out = lent-nothing-changes (answer_number log out) (answer_of log) out
 
 -- what a step sends
-pub write-sent-nothing-changes : (sent : Send) (media : Media) (out : List ℕ)
+pub write-sent-nothing-changes : (sent : Option Message) (media : Media) (out : List ℕ)
     → NothingChanges (line_sent sent media) (send_told sent media out) out (send_buffer sent media out)
 write-sent-nothing-changes sent media out = lent-nothing-changes (send_number sent media out) (line_sent sent media) out
 
@@ -80,6 +80,6 @@ machine-nothing-changes M numbered rowless done s p i out = (λ f. kept (numbere
 pub step-nothing-changes : StepNothingChanges private_machine
 step-nothing-changes =
     machine-nothing-changes private_machine
-    (λ s p i out f. let k = step-refused s p i out (λ z. f (number-told s p i out ∙ z)) in (step_number s p i out, (ap private_answer k.0, k.1)))
-    (λ s p i out e. let k = row-0-keeps s p i out e in (step_number s p i out, (ap private_answer k.0, k.1)))
+    (λ s p i out f. let k = step-refused s p i out (λ z. f (number-told s p i out ∙ z)) in (step_number s p i out, (k.0, k.1)))
+    (λ s p i out e. let k = row-0-keeps s p i out e in (step_number s p i out, (k.0, k.1)))
     (λ s p i out e. line-done s p i out (sym (number-told s p i out) ∙ e))

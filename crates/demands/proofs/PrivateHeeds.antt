@@ -1,4 +1,5 @@
 -- From every well-formed record of the private call machine some input is heeded, and it never stands still. Assumes nothing.
+use Rattle.std.specs.Prelude.{Some}
 use mathlib.Core.Path.{◌≡◌, refl, sym, ap, ◌∙◌, subst}
 use mathlib.Core.Bool.{Bool, true, false, cond, true≢false}
 use Prim.Native.Nat.{ℕ, ◌≤◌}
@@ -32,7 +33,7 @@ use Rattle.private_rows.proofs.Meets.{found-is-met}
 use Rattle.private_call.specs.Effects.{effect_of}
 use Rattle.private_call.specs.Carried.{changes, carry_out}
 use Rattle.private_call.specs.Step.{identifier_taken}
-use Rattle.private_call.specs.declared.Stepped.{Stepped}
+use Rattle.stepping.specs.Answer.{Answer}
 use Rattle.private_call.proofs.Steps.{answer-of-row, answer-told}
 use Rattle.private_call.proofs.Settling.{start_stop}
 use Rattle.private_call.proofs.Holding.{ranged, one-held}
@@ -43,6 +44,7 @@ use Rattle.demands.proofs.Machines.{private-keeps-well-formed}
 use Rattle.demands.proofs.Reflects.{true-reflects}
 use Rattle.demands.proofs.ExactlyWhen.{taken-reflects}
 use Rattle.demands.proofs.Consequences.{private-rows-hold, heeded-by-row, never-still}
+use Rattle.private_record.specs.declared.states.Timers.{Timers}
 
 -- ---- what is heeded
 
@@ -67,7 +69,7 @@ heeded s p i f row t q r n h c =
       arguments = t.arguments;
       row = true-reflects (taken-reflects s p i) (ap (identifier_taken s p i.event) met ∙ n);
     }) (answer-told s p i).0 (subst (λ (k : ℕ). 1 ≤ k) (sym ((answer-told s p i).1 ∙ number)) h)
-    (ap (λ (x : Stepped). changes p.state x.next.state) (answer-of-row s p i (λ e. let z = sym number ∙ e in omega (arith, z, h)))
+    (ap (λ (x : Answer PrivateRecord Timers). changes p.state x.next.state) (answer-of-row s p i (λ e. let z = sym number ∙ e in omega (arith, z, h)))
     ∙ (λ j. changes (state j) (effect_of (met j) (state j)).to) ∙ c)
 
 -- ---- a start that is not refused
@@ -129,20 +131,20 @@ module _ (s : Settings) (p : PrivateRecord) (g : settings_good s ≡ true) (w : 
   by_row i f row h a q r n k c = (i, heeded s p i f row (record { settings = g; formed = w; message = h; arguments = a }) q r n k c)
 
   -- a RELEASE meets R13
-  released : (f : Phase) → phase_of p ≡ f → start_stop (state_of f) ≡ false → row_found s p (releases p) f ≡ R13 → changes (state_of f) State.P1 ≡ true → SomeHeeded
+  released : (f : Phase) → phase_of p ≡ f → start_stop (state_of f) ≡ false → row_found s p (releases p) f ≡ (Some R13) → changes (state_of f) State.P1 ≡ true → SomeHeeded
   released f q e r c =
-      by_row (releases p) f R13 (release-good s p w (ap start_stop ((fit s p w).state ∙ ap state_of q) ∙ e)) refl q r refl (omega arith) c
+      by_row (releases p) f (Some R13) (release-good s p w (ap start_stop ((fit s p w).state ∙ ap state_of q) ∙ e)) refl q r refl (omega arith) c
 
   -- in P0 the user's start is heeded, in P1 the expiry of TFP7, in P2 and P4 the user's end, in P5 the user's reject until the user accepts, elsewhere a RELEASE
   in-phase : (f : Phase) → phase_of p ≡ f → SomeHeeded
   in-phase Phase.P0 q =
-      by_row (starts_another s p) Phase.P0 R1 refl (start-good s p g) q refl (other_differs p.call.parties.identifier) (omega arith) refl
-  in-phase Phase.P1 q = by_row (expires PrivateTimer.Tfp7) Phase.P1 R28 refl refl q refl refl (omega arith) refl
-  in-phase Phase.P2Tfp1 q = by_row (does PrivateAction.End) Phase.P2Tfp1 R8 refl refl q refl refl (omega arith) refl
-  in-phase Phase.P2Tfp2 q = by_row (does PrivateAction.End) Phase.P2Tfp2 R8 refl refl q refl refl (omega arith) refl
+      by_row (starts_another s p) Phase.P0 (Some R1) refl (start-good s p g) q refl (other_differs p.call.parties.identifier) (omega arith) refl
+  in-phase Phase.P1 q = by_row (expires PrivateTimer.Tfp7) Phase.P1 (Some R28) refl refl q refl refl (omega arith) refl
+  in-phase Phase.P2Tfp1 q = by_row (does PrivateAction.End) Phase.P2Tfp1 (Some R8) refl refl q refl refl (omega arith) refl
+  in-phase Phase.P2Tfp2 q = by_row (does PrivateAction.End) Phase.P2Tfp2 (Some R8) refl refl q refl refl (omega arith) refl
   in-phase Phase.P3 q = released Phase.P3 q refl (rw (eq-eqb p.call.parties.identifier p.call.parties.identifier refl)) refl
-  in-phase Phase.P4 q = by_row (does PrivateAction.End) Phase.P4 R9 refl refl q refl refl (omega arith) refl
-  in-phase Phase.P5Tfp2 q = by_row (does PrivateAction.Reject) Phase.P5Tfp2 R25 refl refl q refl refl (omega arith) refl
+  in-phase Phase.P4 q = by_row (does PrivateAction.End) Phase.P4 (Some R9) refl refl q refl refl (omega arith) refl
+  in-phase Phase.P5Tfp2 q = by_row (does PrivateAction.Reject) Phase.P5Tfp2 (Some R25) refl refl q refl refl (omega arith) refl
   in-phase Phase.P5Tfp4 q = released Phase.P5Tfp4 q refl (rw (eq-eqb p.call.parties.identifier p.call.parties.identifier refl)) refl
 
 -- ---- the theorems

@@ -1,4 +1,5 @@
 -- The line that a step leaves at the front of the buffer reads as what the row sends. Assumes nothing.
+use Rattle.std.specs.Prelude.{Option}
 use mathlib.Core.Path.{◌≡◌, refl, ap, ap₂, ◌∙◌}
 use mathlib.Core.Bool.{Bool, true, false, cond}
 use lib.ListN.{take}
@@ -10,7 +11,6 @@ use Rattle.frame.specs.declared.Media.{Media}
 use Rattle.frame.specs.declared.Message.{Message}
 use Rattle.reader.specs.Line.{reading, read_line}
 use Rattle.reader.proofs.ReadsItsLine.{reads-its-line}
-use Rattle.call.specs.declared.Send.{Send}
 use Rattle.stepping.specs.Sending.{line_sent}
 use Rattle.demands.specs.Machines.{Machine, line_to_send, SendsGood, ReadsBack}
 use Rattle.demands.specs.ExactlyWhen.{StepExactlyWhen}
@@ -32,6 +32,6 @@ reads_as m media r = go (carries (kind_of m)) refl
 pub reads-back : (M : Machine) → StepExactlyWhen M → StepNothingChanges M → SendsGood M → ReadsBack M
 reads-back M told kept good s p i out m e sent =
     let media = M.media s p i in
-    let line = ap (λ (x : Send). line_sent x media) sent in
+    let line = ap (λ (x : Option Message). line_sent x media) sent in
     ap read_line (ap₂ take ((kept s p i out).2 e).0 ((kept s p i out).2 e).1 ∙ (take-append_seam (line_to_send M s p i) _ ∙ line))
     ∙ reads_as m media (good s p i (passed-tests M told s p i out e).0 m sent)

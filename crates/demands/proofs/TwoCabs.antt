@@ -14,9 +14,9 @@ use Rattle.frame.specs.Layout.{digits_of}
 use Rattle.frame.specs.Media.{no_media}
 use Rattle.frame.specs.declared.Media.{Media}
 use Rattle.reader.specs.Line.{message_at, media_at, refusal_of, number_of, values_of, refusal, reading, read_line}
-use Rattle.reader.specs.declared.Read.{Read}
-use Rattle.reader.specs.declared.Read.TheVariants.{Readable, Refused}
-use Rattle.reader.specs.declared.Reading.{Reading}
+use Rattle.reader.specs.Line.{Read}
+use Rattle.reader.specs.Line.{Readable, Refused}
+use Rattle.reader.specs.Line.{Reading}
 use Rattle.call.specs.Settings.{settings_good}
 use Rattle.call.specs.declared.Settings.{Settings}
 use Rattle.call.specs.declared.Verdicts.{Verdicts}

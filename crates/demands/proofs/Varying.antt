@@ -23,7 +23,7 @@ use Rattle.group_record.specs.declared.states.GroupRecord.{GroupRecord}
 use Rattle.group_rows.specs.Rows.{row_in}
 use Rattle.group_call.specs.Carried.{stopped_of, running_after, carry_out}
 use Rattle.group_call.specs.Step.{step_of, step_buffer}
-use Rattle.demands.specs.Machines.{Answer, Machine, private_machine, group_machine}
+use Rattle.demands.specs.Machines.{Machine, private_machine, group_machine}
 use Rattle.demands.specs.Played.{crew, six, ours, theirs, cfp3_at, stored, hears, does, expires}
 use Rattle.demands.specs.GroupPlayed.{asked_crew, heard, in_call, announces, does_in_group, starts_group}
 use Rattle.demands.specs.RowPlays.{play, lent, ComesOut, plays}
@@ -31,6 +31,7 @@ use Rattle.demands.specs.GroupPlays.{group_plays}
 use Rattle.demands.specs.Consequences.{Differ, Varies}
 use Rattle.demands.proofs.RowPlays.{plays-come-out}
 use Rattle.demands.proofs.GroupPlays.{group-plays-come-out}
+use Rattle.stepping.specs.Answer.{Answer}
 
 -- what two things are known to be differs in a number, so they differ
 apart : {A : Type 0} (look : A → ℕ) {a b x y : A} → a ≡ x → b ≡ y → eqb (look x) (look y) ≡ false → a ≡ b → ⊥

@@ -7,8 +7,8 @@ use Rattle.call.specs.declared.Input.{Input}
 use Rattle.group_record.specs.declared.states.Timers.{Timers}
 use Rattle.group_record.specs.declared.states.GroupRecord.{GroupRecord}
 use Rattle.group_call.specs.Hearing.{Build}
-use Rattle.group_call.specs.declared.Stepped.{Stepped}
-use Rattle.demands.specs.Machines.{Answer, Machine, group_machine}
+use Rattle.stepping.specs.Answer.{Answer}
+use Rattle.demands.specs.Machines.{Machine, group_machine}
 
 -- a build of a call machine: for all settings, records, inputs and lent buffers an answer, and the buffer after it
 pub record BuildOf (M : Machine) : Type 0 where
@@ -94,10 +94,6 @@ MakesUpRow M last b = (s : Settings) × (p : M.Stored) × (i : Input) × (out : 
 
 -- ---- of the group call machine
 
--- an answer as the step gives it
-abbrev pub stepped_as : Answer GroupRecord Timers → Stepped
-stepped_as a = record { number = a.number; row = a.row; next = a.next; stop = a.stop; start = a.start; length = a.length }
-
 -- a build of the machine is one of its step
 abbrev pub as_step : BuildOf group_machine → Build
-as_step b s g i out = (stepped_as (b.answer s g i out), b.after s g i out)
+as_step b s g i out = (b.answer s g i out, b.after s g i out)

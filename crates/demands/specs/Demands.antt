@@ -1,6 +1,6 @@
 -- The three demands, each as one statement, to be read first. Every part says which sentence it is; the definitions that it cites stand in the files
 -- named by `use`, and behind them in the crates below. Assumes nothing.
-use Rattle.std.specs.Prelude.{◌≡◌, ◌↔◌, List, ℕ}
+use Rattle.std.specs.Prelude.{◌≡◌, ◌↔◌, List, ℕ, Option}
 use Rattle.frame.specs.Frame.{GoodFrame}
 use Rattle.frame.specs.Layout.{line_of}
 use Rattle.frame.specs.declared.Media.{Media}
@@ -8,7 +8,6 @@ use Rattle.frame.specs.declared.Message.{Message}
 use Rattle.reader.specs.Line.{number_of, reading, read_line, line_number}
 use Rattle.writer.specs.Writing.{written_of, buffer_of}
 use Rattle.log_answer.specs.Answer.{answer_of, answer_told, answer_buffer}
-use Rattle.call.specs.declared.Send.{Send}
 use Rattle.stepping.specs.Sending.{line_sent, send_told, send_buffer}
 use Rattle.chooser.specs.Choice.{choice_number}
 use Rattle.group_call.specs.Hearing.{Build}
@@ -31,7 +30,7 @@ pub record NumbersGiven : Type 0 where
   -- a frame to write: 5, 6
   pub of_writing : (m : Message) (media : Media) (out : List ℕ) → GivenExactlyWhen (written_of m media out).number (write_table m media out)
   -- what a step sends: the same, and no number where it sends nothing
-  pub of_sending : (sent : Send) (media : Media) (out : List ℕ) → GivenExactlyWhen (send_told sent media out).number (send_table sent media out)
+  pub of_sending : (sent : Option Message) (media : Media) (out : List ℕ) → GivenExactlyWhen (send_told sent media out).number (send_table sent media out)
   -- a log to answer: 6
   pub of_answering : (log out : List ℕ) → GivenExactlyWhen (answer_told log out).number (answer_table log out)
   -- two lines to choose between: a number of the first, else of the second, else 10
@@ -48,7 +47,7 @@ pub record RefusalsKeep : Type 0 where
   -- the writer
   pub by_writing : (m : Message) (media : Media) (out : List ℕ) → NothingChanges (line_of m media) (written_of m media out) out (buffer_of m media out)
   -- what a step sends
-  pub by_sending : (sent : Send) (media : Media) (out : List ℕ) → NothingChanges (line_sent sent media) (send_told sent media out) out (send_buffer sent media out)
+  pub by_sending : (sent : Option Message) (media : Media) (out : List ℕ) → NothingChanges (line_sent sent media) (send_told sent media out) out (send_buffer sent media out)
   -- the answer to a log
   pub by_answering : (log out : List ℕ) → NothingChanges (answer_of log) (answer_told log out) out (answer_buffer log out)
   -- the chooser

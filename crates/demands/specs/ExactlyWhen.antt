@@ -1,5 +1,5 @@
 -- The numbers handed back, each with its condition in the order of the tests. Assumes nothing.
-use Rattle.std.specs.Prelude.{◌≡◌, ◌⊎◌, ◌↔◌, List, [], ◌∷◌, false, ℕ, suc, ◌*◌, ◌-◌, ◌<◌, ◌≤◌, length, get_or}
+use Rattle.std.specs.Prelude.{◌≡◌, ◌⊎◌, ◌↔◌, List, [], ◌∷◌, false, ℕ, suc, ◌*◌, ◌-◌, ◌<◌, ◌≤◌, length, get_or, None, Some, Option}
 use Rattle.frame.specs.Frame.{in_range}
 use Rattle.frame.specs.Layout.{line_of}
 use Rattle.frame.specs.declared.Media.{Media}
@@ -9,7 +9,6 @@ use Rattle.log_answer.specs.Answer.{answer_of}
 use Rattle.call.specs.Settings.{settings_good}
 use Rattle.call.specs.declared.Settings.{Settings}
 use Rattle.call.specs.declared.Input.{Input}
-use Rattle.call.specs.declared.Send.{Send}
 use Rattle.stepping.specs.Numbers.{heard_good, arguments_good}
 use Rattle.chooser.specs.NoChoice.{NoChoice}
 use Rattle.demands.specs.Totals.{totals}
@@ -72,9 +71,9 @@ abbrev pub write_table : Message → Media → List ℕ → List (ℕ × Type 0)
 write_table m media out = (5, in_range m media ≡ false) ∷ (6, length out < length (line_of m media)) ∷ []
 
 -- the table of what a step sends: the writer's where it is a message, and nothing is refused where it is nothing
-abbrev pub send_table : Send → Media → List ℕ → List (ℕ × Type 0)
-send_table Send.Nothing media out = []
-send_table (Send.Message m) media out = write_table m media out
+abbrev pub send_table : Option Message → Media → List ℕ → List (ℕ × Type 0)
+send_table None media out = []
+send_table (Some m) media out = write_table m media out
 
 -- ---- a log to answer: 6, the buffer has no room for the answer
 

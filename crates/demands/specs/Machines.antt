@@ -1,5 +1,5 @@
 -- A call machine, what is asked of the steps of every one, and the two that there are. Assumes nothing.
-use Rattle.std.specs.Prelude.{◌≡◌, ◌⊎◌, List, Bool, true, false, not, ◌&&◌, ◌||◌, ℕ, ◌≤◌, length, take}
+use Rattle.std.specs.Prelude.{◌≡◌, ◌⊎◌, List, Bool, true, false, not, ◌&&◌, ◌||◌, ℕ, ◌≤◌, length, take, Some, Option}
 use Rattle.frame.specs.Frame.{kind_of, media_of, in_range}
 use Rattle.frame.specs.declared.Media.{Media}
 use Rattle.frame.specs.declared.Message.{Message}
@@ -13,7 +13,6 @@ use Rattle.call.specs.declared.PrivateTimer.{PrivateTimer}
 use Rattle.call.specs.declared.GroupTimer.{GroupTimer}
 use Rattle.call.specs.declared.Event.{Event}
 use Rattle.call.specs.declared.Input.{Input}
-use Rattle.call.specs.declared.Send.{Send}
 use Rattle.stepping.specs.Numbers.{heard_good, arguments_good}
 use Rattle.stepping.specs.Sending.{line_sent}
 use Rattle.private_record.specs.Phases as Phases
@@ -24,7 +23,7 @@ use Rattle.private_rows.specs.Rows.{row_of}
 use Rattle.private_rows.specs.declared.Row.TheVariants.{R1}
 use Rattle.private_call.specs.Carried as Carried
 use Rattle.private_call.specs.Step.{done_of, answer_met, step_of, step_buffer}
-use Rattle.private_call.specs.declared.Stepped.{Stepped}
+use Rattle.stepping.specs.Answer.{Answer}
 use Rattle.group_record.specs.States as GroupStates
 use Rattle.group_record.specs.Formed as GroupFormed
 use Rattle.group_record.specs.declared.states.Timers as GroupTimers
@@ -33,24 +32,8 @@ use Rattle.group_rows.specs.Rows as GroupRows
 use Rattle.group_rows.specs.declared.Row.TheVariants.{G9}
 use Rattle.group_call.specs.Carried as GroupCarried
 use Rattle.group_call.specs.Step as GroupStep
-use Rattle.group_call.specs.declared.Stepped as GroupStepped
 
 -- ---- a machine
-
--- the answer of a step
-pub record Answer (Stored Timers : Type 0) : Type 0 where
-  -- its number
-  pub number : ℕ
-  -- the row that was carried out, 0 where none was
-  pub row : ℕ
-  -- the next record
-  pub next : Stored
-  -- the timers to stop
-  pub stop : Timers
-  -- the timers to start then
-  pub start : Timers
-  -- the length of the line to send
-  pub length : ℕ
 
 -- a call machine
 pub record Machine : Type 1 where
@@ -79,7 +62,7 @@ pub record Machine : Type 1 where
   -- the row that is met refuses, with 8
   pub RefusedByRow : Settings → Stored → Input → Type 0
   -- what the row that is met sends
-  pub sent : Settings → Stored → Input → Send
+  pub sent : Settings → Stored → Input → Option Message
   -- the media that stands beside it: that of the next record
   pub media : Settings → Stored → Input → Media
   -- the answer that the row that is met asks for: row 0 changes nothing, any other row is carried out, with the length of its line
@@ -146,12 +129,12 @@ KeepsWellFormed M =
 -- where nothing ahead of sending is refused, the message that is sent is in range
 abbrev pub SendsGood : Machine → Type 0
 SendsGood M =
-    (s : Settings) (p : M.Stored) (i : Input) → Unrefused M s p i → (m : Message) → M.sent s p i ≡ Send.Message m → in_range m (M.media s p i) ≡ true
+    (s : Settings) (p : M.Stored) (i : Input) → Unrefused M s p i → (m : Message) → M.sent s p i ≡ Some m → in_range m (M.media s p i) ≡ true
 
 -- the line that is left at the front of the buffer reads as the message that the row sends, with its media where the kind carries media
 abbrev pub FrontReads : (M : Machine) → Settings → M.Stored → Input → Answer M.Stored M.Timers → List ℕ → Type 0
 FrontReads M s p i answer after =
-    (m : Message) → answer.number ≡ 0 → M.sent s p i ≡ Send.Message m
+    (m : Message) → answer.number ≡ 0 → M.sent s p i ≡ Some m
     → read_line (take answer.length after) ≡ reading m (media_of (kind_of m) (M.media s p i))
 
 -- so does that of every step
@@ -189,11 +172,7 @@ SparesRanOut M =
 
 -- 8 of a row: all that R1 asks holds, and the identifier that the user names is the stored one
 abbrev pub IdentifierStored : Settings → PrivateRecord → Input → Type 0
-IdentifierStored s p i = (row_of s p i ≡ R1) × ((request_of s i.event).parties.identifier ≡ p.call.parties.identifier)
-
--- the answer of its step
-abbrev pub private_answer : Stepped → Answer PrivateRecord PrivateTimers.Timers
-private_answer r = record { number = r.number; row = r.row; next = r.next; stop = r.stop; start = r.start; length = r.length }
+IdentifierStored s p i = (row_of s p i ≡ (Some R1)) × ((request_of s i.event).parties.identifier ≡ p.call.parties.identifier)
 
 -- the machine
 abbrev pub private_machine : Machine
@@ -213,8 +192,8 @@ private_machine =
       RefusedByRow = IdentifierStored;
       sent = λ s p i. (done_of s p i).sent;
       media = λ s p i. (done_of s p i).next.call.media;
-      carried = λ s p i. private_answer (answer_met s p i);
-      step = λ s p i out. private_answer (step_of s p i out);
+      carried = answer_met;
+      step = step_of;
       buffer = step_buffer;
     }
 
@@ -222,11 +201,7 @@ private_machine =
 
 -- 8 of a row: all that G9 asks holds, and now is not above the stored time of the last change
 abbrev pub ChangeNotLater : Settings → GroupRecord → Input → Type 0
-ChangeNotLater s g i = (GroupRows.row_of s g i.event ≡ G9) × ((announced_of s i.event).call.last_change ≤ g.call.last_change)
-
--- the answer of its step
-abbrev pub group_answer : GroupStepped.Stepped → Answer GroupRecord GroupTimers.Timers
-group_answer r = record { number = r.number; row = r.row; next = r.next; stop = r.stop; start = r.start; length = r.length }
+ChangeNotLater s g i = (GroupRows.row_of s g i.event ≡ (Some G9)) × ((announced_of s i.event).call.last_change ≤ g.call.last_change)
 
 -- the machine
 abbrev pub group_machine : Machine
@@ -246,7 +221,7 @@ group_machine =
       RefusedByRow = ChangeNotLater;
       sent = λ s g i. (GroupStep.done_of s g i).sent;
       media = λ s g i. (GroupStep.done_of s g i).next.media;
-      carried = λ s g i. group_answer (GroupStep.answer_met s g i);
-      step = λ s g i out. group_answer (GroupStep.step_of s g i out);
+      carried = GroupStep.answer_met;
+      step = GroupStep.step_of;
       buffer = GroupStep.step_buffer;
     }

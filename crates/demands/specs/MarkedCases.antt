@@ -8,7 +8,7 @@ use Rattle.frame.specs.declared.Message.{Message}
 use Rattle.frame.specs.declared.GroupCall.{GroupCall}
 use Rattle.frame.specs.declared.Message.TheVariants.{Ringing, Announcement}
 use Rattle.reader.specs.Line.{count, line_number, read_line, reading, refusal}
-use Rattle.reader.specs.declared.Reading.{Reading}
+use Rattle.reader.specs.Line.{Reading}
 use Rattle.writer.specs.Writing.{write_number}
 use Rattle.call.specs.Settings.{no_counters, settings_good}
 use Rattle.call.specs.declared.Settings.{Settings}

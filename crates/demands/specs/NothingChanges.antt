@@ -3,11 +3,12 @@ use Rattle.std.specs.Prelude.{◌≡◌, ◌↔◌, List, [], ℕ, length}
 use Rattle.std.specs.Borrow.{Bor}
 use Rattle.reader.specs.Line.{line_number, read_line, refusal}
 use Rattle.writer.specs.Lent.{at_front}
-use Rattle.writer.specs.declared.Written.{Written}
+use Rattle.writer.specs.Lent.{Written}
 use Rattle.call.specs.declared.Settings.{Settings}
 use Rattle.call.specs.declared.Input.{Input}
 use Rattle.chooser.specs.Choice.{choice_of, choice_number, place_of}
-use Rattle.demands.specs.Machines.{Answer, Machine, line_to_send}
+use Rattle.demands.specs.Machines.{Machine, line_to_send}
+use Rattle.stepping.specs.Answer.{Answer}
 
 -- ---- a text written into a lent buffer
 

@@ -13,7 +13,8 @@ use Rattle.group_record.specs.Formed.{is_well_formed}
 use Rattle.group_record.specs.declared.states.State.{State}
 use Rattle.group_record.specs.declared.states.GroupRecord.{GroupRecord}
 use Rattle.group_call.specs.Hearing.{HeardLine, Build, promised, answer_hearing, hear, hear_all}
-use Rattle.group_call.specs.declared.Stepped.{Stepped}
+use Rattle.stepping.specs.Answer.{Answer}
+use Rattle.group_record.specs.declared.states.Timers.{Timers}
 
 -- ---- a cab and the calls that it knows of
 
@@ -95,7 +96,7 @@ abbrev pub end_of : Build → Cab → GroupRecord
 end_of b x = hear_all b x.settings x.stored x.lines
 
 -- an answer to a line that sends nothing: the line's own number, length 0, and every byte of the lent buffer as it was
-abbrev pub Unsent : HeardLine → Stepped × List ℕ → Type 0
+abbrev pub Unsent : HeardLine → Answer GroupRecord Timers × List ℕ → Type 0
 Unsent x answer = (answer.0.number ≡ line_number x.line) × (answer.0.length ≡ 0) × (answer.1 ≡ x.lent)
 
 -- every line is answered so

@@ -6,3 +6,4 @@ pub mod MediaDigits
 pub mod Frames
 pub mod Longest
 pub mod Table
+pub mod Refusals

@@ -1,5 +1,5 @@
 -- The kinds of message by their numbers. Assumes nothing.
-use Rattle.std.specs.Prelude.{ℕ, ◌≡◌, Bool, false, Result, MatchResult}
+use Rattle.std.specs.Prelude.{ℕ, ◌≡◌, false, Result, MatchResult}
 use Rattle.frame.specs.Range.{within}
 use Rattle.frame.specs.declared.kind.Kind.{Kind}
 use Rattle.frame.specs.declared.kind.Kind.TheVariants.{SetupRequest, Ringing, Accept, Reject, Release, ReleaseAck, AcceptAck, Announcement, GroupAccept}

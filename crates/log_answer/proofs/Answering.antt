@@ -1,76 +1,85 @@
--- A log that is being answered: what one turn adds, and what stands in the buffer so far. Assumes nothing.
-use mathlib.Core.Path.{◌≡◌, sym, ap, ap₂, ◌∙◌}
-use mathlib.Core.List.{List, [], ◌++◌, append_assoc, append-nil, flatten}
+-- A log that is being answered: what one line more adds, and what stands in the buffer so far. Assumes nothing.
+use mathlib.Core.Path.{◌≡◌, sym, ap, ◌∙◌}
+use mathlib.Core.List.{List, [], ◌∷◌, ◌++◌, append_assoc, append-nil, flatten}
 use Prim.Native.Nat.{ℕ, ◌+◌, ◌-◌, ◌≤◌}
 use native.Mathlib.Omega.{arith}
-use lib.ListN.{length, take, drop, length-append, length-drop, drop_of_length-le, take-append-drop}
-use lib.Seq.{drop-drop, length-take-le}
+use lib.ListN.{length, take, drop, length-append, length-drop, drop_of_length-le}
+use lib.Seq.{drop-drop, take_all, take_at, drop_at}
 use borrow.Rule.Slice.PartMut.{put_mid}
 use Rattle.writer.specs.Lent.{at_front}
+use Rattle.log_lines.specs.Lines.{lines_of}
 use Rattle.log_answer.specs.Answer.{answer_to, answers_to, answer_of}
-use Rattle.log_answer.proofs.LineByLine.{answer-none}
-use Rattle.log_answer.proofs.Turns.{part_from, part-from, Turn, put_front, put-behind, put-length}
 
--- what is left is answered by the answer to the line of the turn, then by that to the rest
-turn-answer : {log : List ℕ} {at n : ℕ} → Turn log at n → answer_of (drop at log) ≡ answer_to (take n (part_from log at)) ++ answer_of (drop (at + n) log)
+-- the answer to a log: that to its first line, then that to the rest
+pub answer-first : (log line rest : List ℕ) → lines_of log ≡ line ∷ lines_of rest → answer_of log ≡ answer_to line ++ answer_of rest
 unfolding answer_of flatten
-turn-answer t = ap answers_to t.lines
+answer-first log line rest e = ap answers_to e
 
 -- and so their lengths
-pub turn-length : {log : List ℕ} {at n : ℕ} → Turn log at n
-    → length (answer_of (drop at log)) ≡ length (answer_to (take n (part_from log at))) + length (answer_of (drop (at + n) log))
-turn-length {log} {at} {n} t = ap length (turn-answer t) ∙ length-append (answer_to (take n (part_from log at))) (answer_of (drop (at + n) log))
+pub answer-lengths : (log line rest : List ℕ) → lines_of log ≡ line ∷ lines_of rest → length (answer_of log) ≡ length (answer_to line) + length (answer_of rest)
+answer-lengths log line rest e = ap length (answer-first log line rest e) ∙ length-append (answer_to line) (answer_of rest)
 
--- behind the last byte nothing is left to answer
-none_left : (log : List ℕ) (at : ℕ) → length log ≤ at → answer_of (drop at log) ≡ []
-none_left log at h = ap answer_of (drop_of_length-le log h) ∙ answer-none
+-- a log without lines has no answer
+pub answer-no-lines : (log : List ℕ) → lines_of log ≡ [] → answer_of log ≡ []
+unfolding answer_of flatten
+answer-no-lines log e = ap answers_to e
 
--- so nothing is needed
-pub answer-past : (log : List ℕ) (at : ℕ) → length log ≤ at → length (answer_of (drop at log)) ≡ 0
-answer-past log at h = ap length (none_left log at h)
+-- the first w bytes of a buffer answer a log but for the rest, and behind them the buffer is as it was lent
+abbrev pub SoFar : List ℕ → List ℕ → List ℕ → ℕ → List ℕ → Type 0
+SoFar log lent out w rest =
+    (w ≤ length out) × (length out ≡ length lent) × (done : List ℕ) × (w ≡ length done) × (out ≡ done ++ drop w lent) × (done ++ answer_of rest ≡ answer_of log)
 
--- the first w bytes of a buffer answer a log up to a place, and behind them the buffer is as it was lent
-abbrev pub SoFar : List ℕ → List ℕ → List ℕ → ℕ → ℕ → Type 0
-SoFar log lent out w at =
-    (at ≤ length log) × (length out ≡ length lent) × (w ≤ length out) × (take w out ++ answer_of (drop at log) ≡ answer_of log)
-    × (drop w out ≡ drop w lent)
+-- ---- one line more
 
--- ---- one turn more
+module _ (log lent out : List ℕ) (w : ℕ) (rest line after : List ℕ) (far : SoFar log lent out w rest) (next : lines_of rest ≡ line ∷ lines_of after)
+    (fits : length (answer_of log) ≤ length lent) where
+  -- what is written so far
+  abbrev done : List ℕ
+  done = far.2
 
-module _ (log lent out : List ℕ) (w at n : ℕ) (far : SoFar log lent out w at) (t : Turn log at n) (fits : length (answer_of log) ≤ length lent) where
-  -- the answer of the turn
-  abbrev answer : List ℕ
-  answer = answer_to (take n (part_from log at))
+  -- from w on the buffer is as it was lent
+  as_lent : drop w out ≡ drop w lent
+  as_lent = ap (drop w) far.4 ∙ drop_at done (drop w lent) w (sym far.3)
 
-  -- there is room for it
-  room-left : w + length answer ≤ length out
+  -- and so is the part that the code lends on
+  part : take (length out - w) (drop w out) ≡ drop w lent
+  part = take_all (length out - w) (drop w out) (simp length-drop (omega arith)) ∙ as_lent
+
+  -- there is room for its answer
+  room-left : w + length (answer_to line) ≤ length lent
   room-left =
-      let all = sym (length-append (take w out) (answer_of (drop at log))) ∙ ap length far.3 in
-      omega (arith, all, length-take-le w out far.2, turn-length t, far.1)
+      let all = sym (length-append done (answer_of rest)) ∙ ap length far.5 in
+      omega (arith, all, far.3, answer-lengths rest line after next)
 
   -- in the part from w on
-  pub room-part : length answer ≤ length (part_from out w)
-  room-part = rw (part-from out w) (omega (arith, room-left, length-drop w out))
+  pub room-part : length (answer_to line) ≤ length (take (length out - w) (drop w out))
+  room-part = rw part (omega (arith, room-left, length-drop w lent))
 
-  -- once it is written, the buffer answers the log up to the next line
-  pub further : (last : List ℕ) (m : ℕ) → m ≡ length answer → last ≡ at_front answer (part_from out w)
-      → SoFar log lent (put_mid w (length out - w) out last) (w + m) (at + n)
+  -- once it is written, the buffer answers the log but for what follows the line
+  pub further : (last : List ℕ) (m : ℕ) → m ≡ length (answer_to line) → last ≡ at_front (answer_to line) (take (length out - w) (drop w out))
+      → SoFar log lent (put_mid w (length out - w) out last) (w + m) after
   further last m e f =
-      let long = put-length out answer last w room-left f in
-      rw e (
-        t.within,
-        long ∙ far.1,
-        rw long room-left,
-        ap (λ (s : List ℕ). s ++ answer_of (drop (at + n) log)) (put_front out answer last w room-left f)
-            ∙ append_assoc (take w out) answer (answer_of (drop (at + n) log)) ∙ ap (λ (s : List ℕ). take w out ++ s) (sym (turn-answer t)) ∙ far.3,
-        put-behind out answer last w room-left f ∙ sym (drop-drop (length answer) w out) ∙ ap (drop (length answer)) far.4
-            ∙ drop-drop (length answer) w lent,
+      let answer = answer_to line in
+      let none : drop (length out - w) (drop w out) ≡ [] = drop_of_length-le (drop w out) {i = length out - w} (simp length-drop (omega arith)) in
+      let front : take w out ≡ done = ap (take w) far.4 ∙ take_at done (drop w lent) w (sym far.3) in
+      let long : w + m ≡ length (done ++ answer) = omega (arith, far.3, e, length-append done answer) in
+      let put : put_mid w (length out - w) out last ≡ (done ++ answer) ++ drop (w + m) lent =
+      rw (f, part, none, front, append-nil, append_assoc, drop-drop, e) in
+      let same : length (put_mid w (length out - w) out last) ≡ length lent =
+      ap length put ∙ length-append (done ++ answer) (drop (w + m) lent) ∙ omega (arith, long, length-drop (w + m) lent, room-left, e) in (
+        omega (arith, same, room-left, e),
+        same,
+        done ++ answer,
+        long,
+        put,
+        append_assoc done answer (answer_of after) ∙ ap (λ (s : List ℕ). done ++ s) (sym (answer-first rest line after next)) ∙ far.5,
       )
 
--- at the end of the log its whole answer is written
-pub all-answered : (log lent out : List ℕ) (w at : ℕ) → SoFar log lent out w at → length log ≤ at → (w ≡ length (answer_of log)) × (out ≡ at_front (answer_of log) lent)
-all-answered log lent out w at far over =
-    let front : take w out ≡ answer_of log =
-    sym (append-nil (take w out)) ∙ ap (λ (s : List ℕ). take w out ++ s) (sym (none_left log at over)) ∙ far.3 in
-    let long : w ≡ length (answer_of log) = sym (length-take-le w out far.2) ∙ ap length front in
-    (long, sym (take-append-drop w out) ∙ ap₂ ◌++◌ front (far.4 ∙ ap (λ (n : ℕ). drop n lent) long))
+-- where no lines are left the whole answer is written
+pub all-answered : (log lent out : List ℕ) (w : ℕ) (rest : List ℕ) → SoFar log lent out w rest → lines_of rest ≡ []
+    → (w ≡ length (answer_of log)) × (out ≡ at_front (answer_of log) lent)
+all-answered log lent out w rest far over =
+    let whole : far.2 ≡ answer_of log =
+    sym (append-nil far.2) ∙ ap (λ (s : List ℕ). far.2 ++ s) (sym (answer-no-lines rest over)) ∙ far.5 in
+    let long : w ≡ length (answer_of log) = far.3 ∙ ap length whole in
+    (long, rw (sym whole, sym far.3) far.4)

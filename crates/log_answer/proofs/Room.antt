@@ -8,7 +8,7 @@ use lib.Dec.{leb}
 use lib.ListN.{length, drop, length-append}
 use borrow.Author.Tests.{leb-true, leb-false, lt-ltb, le-ltb}
 use Rattle.writer.specs.Lent.{at_front}
-use Rattle.writer.specs.declared.Written.{Written}
+use Rattle.writer.specs.Lent.{Written}
 use Rattle.log_lines.specs.Lines.{CutPlace}
 use Rattle.log_lines.proofs.Lines.{cut-place}
 use Rattle.log_answer.specs.Answer.{answer_of, answer_number, answer_told, answer_buffer}

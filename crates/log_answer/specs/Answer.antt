@@ -2,8 +2,7 @@
 use Rattle.std.specs.Prelude.{ℕ, ◌+◌, ◌≡◌, List, [], ◌∷◌, map, cond, length, ltb, eqb}
 use Rattle.frame.specs.Number.{first_given}
 use Rattle.reader.specs.Line.{line_number}
-use Rattle.writer.specs.Lent.{told, lent_after}
-use Rattle.writer.specs.declared.Written.{Written}
+use Rattle.writer.specs.Lent.{Written, told, lent_after}
 use Rattle.log_lines.specs.Lines.{lines_of, joined}
 
 -- `!`

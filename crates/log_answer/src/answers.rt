@@ -3,34 +3,32 @@ ghost use Rattle.std.specs.Prelude.{◌≡◌, ◌≤◌, leb, length};
 ghost use Rattle.writer.specs.Lent.{at_front};
 ghost use Rattle.log_answer.specs.Answer.{answer_to, answer_of};
 
-use log_lines::first_line_length;
+use crate::lines::Lines;
+use frame::Refusal;
 
 // How long the answer to a line is.
 #[tactic(auto, unfolding(crate::specs::Answer::answer_to))]
 fn answer_length(line: &[u8]) -> usize
     ensures { result ≡ length (answer_to line.now) }
 {
-    if reader::check_line(line) == 0 {
-        return line.len();
+    match reader::check_line(line) {
+        Ok(()) => line.len(),
+        Err(_) => 3,
     }
-    3
 }
 
 // Writes the answer to a line at the front of out, and tells its length.
+#[tactic(auto, unfolding(crate::specs::Answer::answer_to))]
 fn answer_line(line: &[u8], out: &mut [u8]) -> usize
     requires { length (answer_to line.now) ≤ length out.old }
     ensures value { result ≡ length (answer_to line.now) }
     ensures out_after { out.new ≡ at_front (answer_to line.now) out.old }
 {
-    let number = reader::check_line(line);
-    if number == 0 {
-        out[..line.len()].copy_from_slice(line);
-        return line.len();
-    }
-    out[0] = b'!';
-    out[1] = b'0' + number;
-    out[2] = 0x0a;
-    3
+    let number = Refusal::number_of(&reader::check_line(line));
+    let refusal = [b'!', b'0' + number, b'\n'];
+    let answer = if number == 0 { line } else { &refusal };
+    out[..answer.len()].copy_from_slice(answer);
+    answer.len()
 }
 
 // Whether room bytes hold the answer to a log; three times the log's length always does.
@@ -41,16 +39,11 @@ pub(crate) fn has_room(log: &[u8], room: usize) -> bool
         return true;
     }
     let mut left = room;
-    let mut at = 0;
-    while at < log.len() {
-        let rest = &log[at..];
-        let length = first_line_length(rest);
-        let needed = answer_length(&rest[..length]);
-        if left < needed {
+    for line in Lines(log) {
+        let Some(rest) = left.checked_sub(answer_length(line)) else {
             return false;
-        }
-        left -= needed;
-        at += length;
+        };
+        left = rest;
     }
     true
 }
@@ -62,13 +55,8 @@ pub(crate) fn put_answers(log: &[u8], out: &mut [u8]) -> usize
     ensures out_after { out.new ≡ at_front (answer_of log.now) out.old }
 {
     let mut written = 0;
-    let mut at = 0;
-    while at < log.len() {
-        let rest = &log[at..];
-        let length = first_line_length(rest);
-        let more = answer_line(&rest[..length], &mut out[written..]);
-        written += more;
-        at += length;
+    for line in Lines(log) {
+        written += answer_line(line, &mut out[written..]);
     }
     written
 }

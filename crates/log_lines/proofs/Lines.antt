@@ -4,14 +4,19 @@ use mathlib.Core.Path.{◌≡◌, refl, sym, ap, ◌∙◌}
 use mathlib.Core.Logic.{⊎_elim}
 use mathlib.Core.List.{List, [], ◌∷◌, ◌++◌, append-nil, flatten}
 use mathlib.Core.Bool.{Bool, true, false, not, cond, false≢true}
-use Prim.Native.Nat.{ℕ, zero, suc, ◌+◌, ◌<◌, ◌≤◌}
-use native.Mathlib.Nat.{add-zero, add-suc, zero-add}
+use Prim.Native.Nat.{ℕ, suc, ◌+◌, ◌<◌, ◌≤◌, min}
 use native.Mathlib.Omega.{arith}
-use lib.ListN.{length, take, drop, get_or, length-append, drop_of_length-le}
-use lib.Seq.{length-take-le, take-append_seam, drop-append_seam, drop-cons}
+use lib.ListN.{length, take, drop}
+use lib.Seq.{length-take-le, take-append_seam, drop-append_seam}
 use borrow.Author.Tests.{not-true}
-use Rattle.frame.proofs.Laws.{and_split, or_cases, or-none, or_split}
-use Rattle.log_lines.specs.Lines.{is_end, ahead, lines_of, joined, first_line, after_first, end_within, WithoutEnd, ended_line, unended_piece, cut_at_ends, CutPlace}
+use Rattle.std.specs.Prelude.{Option, Some, None}
+use Rattle.std.specs.List.{position_or_len}
+use Rattle.std.specs.Option.{option_map_or}
+use Rattle.std.proofs.lemmas.Bool.{false_from_ne_true}
+use Rattle.std.proofs.lemmas.List.Sums.{position_or_len_is}
+use Rattle.memchr.specs.Find.{IsFirstByte, is_byte}
+use Rattle.frame.proofs.Laws.{and_split, or_cases}
+use Rattle.log_lines.specs.Lines.{is_end, ahead, lines_of, joined, first_line, after_first, ended_line, unended_piece, cut_at_ends, CutPlace}
 
 -- ---- joined
 
@@ -60,68 +65,50 @@ lines-first (x ∷ y ∷ log) h = go (is_end x) (lines-first (y ∷ log) (omega 
     go false e = ap (ahead x) e
 
 -- the first line is the front of the log, by its length
-pub first-is-front : (log : List ℕ) → take (length (first_line log)) log ≡ first_line log
+first-is-front : (log : List ℕ) → take (length (first_line log)) log ≡ first_line log
 first-is-front log =
     ap (take (length (first_line log))) (sym (first-and-after log)) ∙ take-append_seam (first_line log) (after_first log)
 
 -- and what stands behind it is the rest
-pub after-is-rest : (log : List ℕ) → drop (length (first_line log)) log ≡ after_first log
+after-is-rest : (log : List ℕ) → drop (length (first_line log)) log ≡ after_first log
 after-is-rest log =
     ap (drop (length (first_line log))) (sym (first-and-after log)) ∙ drop-append_seam (first_line log) (after_first log)
 
--- the first line is no longer than the log
-pub first-within : (log : List ℕ) → length (first_line log) ≤ length log
-first-within log =
-    let e : length (first_line log) + length (after_first log) ≡ length log = sym (length-append (first_line log) (after_first log)) ∙ ap length (first-and-after log) in
-    omega arith
+-- so the lines are what is cut off at the length of the first, and the lines of the rest
+pub lines-cut : (log : List ℕ) (n : ℕ) → 1 ≤ length log → n ≡ length (first_line log) → lines_of log ≡ take n log ∷ lines_of (drop n log)
+lines-cut log n h e = rw (e, first-is-front log, after-is-rest log) (lines-first log h)
 
--- and has a byte where the log has one
-pub first_some : (log : List ℕ) → 1 ≤ length log → 1 ≤ length (first_line log)
+-- and there are none of an empty log
+pub lines-none : (log : List ℕ) → length log ≡ 0 → lines_of log ≡ []
+unfolding lines_of
+lines-none [] h = refl
+lines-none (x ∷ log) h = absurd (omega arith)
+
+-- the first line ends behind the first byte that ends a line, or with the log
+first-end : (log : List ℕ) → length (first_line log) ≡ min (position_or_len is_end log + 1) (length log)
 unfolding first_line
-first_some [] h = h
-first_some (x ∷ log) h = omega arith
+first-end [] = refl
+first-end (x ∷ log) = go (is_end x) (first-end log)
+  where
+    go : (b : Bool) → length (first_line log) ≡ min (position_or_len is_end log + 1) (length log)
+        → suc (length (cond b [] (first_line log))) ≡ min (cond (not b) (1 + position_or_len is_end log) 0 + 1) (suc (length log))
+    go true h = omega arith
+    go false h = omega (arith, h)
+
+-- so its length is what the search for that byte gives
+pub first_length : (log : List ℕ) (r : Option ℕ) → IsFirstByte (is_byte 0x0a) log r → length (first_line log) ≡ option_map_or (λ at. at + 1) r (length log)
+first_length log None none =
+    let all = position_or_len_is is_end log (length log) 0 (omega arith) (λ k l. false_from_ne_true _ (none k (omega arith) l)) (λ w. absurd (omega arith)) in
+    omega (arith, first-end log, all)
+first_length log (Some at) found =
+    let ahead = found.0.before in
+    let within : at < length log = found.0.high in
+    let place = position_or_len_is is_end log at 0 (omega arith) (λ k l. false_from_ne_true _ (ahead k (omega arith) l)) (λ w. found.1) in
+    omega (arith, first-end log, place)
 
 -- a list can be cut wherever it has so many bytes
 pub cut-place : (n : ℕ) (l : List ℕ) → n ≤ length l → CutPlace n l
 cut-place n l h = (h, sym (length-take-le n l h))
-
--- ---- byte by byte
-
--- a byte that ends no line makes the first line one longer
-first_more : (log : List ℕ) (at : ℕ) → at < length log → is_end (get_or log at 0) ≡ false
-    → length (first_line (drop at log)) ≡ suc (length (first_line (drop (suc at) log)))
-unfolding first_line
-first_more log at h e = rw (drop-cons log at 0 h, e)
-
--- a byte that ends a line is its last
-pub first-stop : (log : List ℕ) (at : ℕ) → at < length log → is_end (get_or log at 0) ≡ true → length (first_line (drop at log)) ≡ 1
-unfolding first_line
-first-stop log at h e = rw (drop-cons log at 0 h, e)
-
--- behind the last byte there is no line
-pub first-none : (log : List ℕ) (at : ℕ) → length log ≤ at → length (first_line (drop at log)) ≡ 0
-unfolding first_line
-first-none log at h = rw (drop_of_length-le log h)
-
--- no line ends within n bytes and within the m that follow them: none ends within them all
-without_more : (n m : ℕ) (log : List ℕ) → end_within n log 0 ≡ false → end_within m log n ≡ false → end_within (n + m) log 0 ≡ false
-without_more n zero log h k = rw add-zero h
-without_more n (suc m) log h k =
-    let p = or_split (end_within m log n) (is_end (get_or log (n + m) 0)) k in
-    rw (add-suc, zero-add) (or-none (end_within (n + m) log 0) (without_more n m log h p.0) p.1)
-
--- where the m bytes are there
-pub passed-more : (n m : ℕ) (log : List ℕ) → WithoutEnd n log → n + m ≤ length log → end_within m log n ≡ false → WithoutEnd (n + m) log
-passed-more n m log h r k = (r, without_more n m log h.1 k)
-
--- n bytes in which no line ends make the first line n longer
-pub first-skips : (n : ℕ) (log : List ℕ) → WithoutEnd n log → length (first_line log) ≡ n + length (first_line (drop n log))
-first-skips zero log h = rw zero-add
-first-skips (suc n) log h =
-    let p = or_split (end_within n log 0) (is_end (get_or log (0 + n) 0)) h.1 in
-    let before = first-skips n log (omega (arith, h.0), p.0) in
-    let last = first_more log n (omega (arith, h.0)) (rw zero-add at p.1) in
-    omega (arith, before, last)
 
 -- ---- none but the last can lack its end, and no other lines make up the log
 

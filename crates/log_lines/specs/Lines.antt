@@ -1,5 +1,5 @@
 -- A log as lines: each ends with its 0A, and what stands behind the last 0A is one line more. Assumes nothing.
-use Rattle.std.specs.Prelude.{ℕ, zero, suc, ◌+◌, ◌≤◌, ◌≡◌, Bool, true, false, not, cond, ◌&&◌, ◌||◌, length, take, get_or, eqb}
+use Rattle.std.specs.Prelude.{ℕ, ◌≤◌, ◌≡◌, Bool, true, false, not, cond, ◌&&◌, ◌||◌, length, take, eqb}
 use mathlib.Core.List.{List, [], ◌∷◌, flatten}
 
 -- the byte that ends a line
@@ -59,17 +59,6 @@ abbrev pub ends_with_end : List ℕ → Bool
 ends_with_end [] = true
 ends_with_end (x ∷ []) = is_end x
 ends_with_end (x ∷ y ∷ log) = ends_with_end (y ∷ log)
-
--- ---- what the search for a line end tells
-
--- a line ends within the n bytes from place `at` on
-abbrev pub end_within : ℕ → List ℕ → ℕ → Bool
-end_within zero log at = false
-end_within (suc n) log at = end_within n log at || is_end (get_or log (at + n) 0)
-
--- no line ends within the first n bytes, and so many there are
-abbrev pub WithoutEnd : ℕ → List ℕ → Type 0
-WithoutEnd n log = (n ≤ length log) × (end_within n log 0 ≡ false)
 
 -- ---- where a log or a buffer is cut
 

@@ -7,11 +7,11 @@ use lib.Dec.{leb}
 use lib.ListN.{length}
 use contract.Lifetimes.{Lfts}
 use Rattle.reader.specs.Line.{line_number, read_line}
-use Rattle.reader.specs.declared.Reading.{Reading}
+use Rattle.reader.specs.Line.{Reading}
 use Rattle.reader.proofs.check_line.Reads as check-line
 use Rattle.reader.proofs.read_line.Reads as read-line
 use Rattle.writer.specs.Lent.{at_front}
-use Rattle.writer.specs.declared.Written.{Written}
+use Rattle.writer.specs.Lent.{Written}
 use Rattle.writer.specs.Writing.{written_of, buffer_of}
 use Rattle.writer.proofs.write_line.Reads as write-line
 use Rattle.log_answer.specs.Answer.{answer_of}

@@ -1,4 +1,5 @@
 -- The contracts keep the three demands. Assumes nothing.
+use Rattle.std.specs.Prelude.{Option}
 use mathlib.Core.Path.{◌≡◌, refl, sym, ap, ap₂, ◌∙◌, subst}
 use mathlib.Core.Logic.{◌⊎◌, inl, inr, ⊎_elim}
 use mathlib.Core.List.{List, [], ◌∷◌, append-nil, flatten}
@@ -15,9 +16,9 @@ use Rattle.frame.specs.Layout.{line_of}
 use Rattle.frame.specs.declared.Media.{Media}
 use Rattle.frame.specs.declared.Message.{Message}
 use Rattle.reader.specs.Line.{number_of, reading, refusal, read_line, line_number}
-use Rattle.reader.specs.declared.Reading.{Reading}
+use Rattle.reader.specs.Line.{Reading}
 use Rattle.reader.proofs.OnlyLine.{number_read}
-use Rattle.writer.specs.declared.Written.{Written}
+use Rattle.writer.specs.Lent.{Written}
 use Rattle.log_lines.specs.Lines.{lines_of}
 use Rattle.log_lines.proofs.Lines.{ended-cut, lines-are-the-only-ones}
 use Rattle.log_answer.specs.Answer.{answer_of, AllReadable}
@@ -25,7 +26,6 @@ use Rattle.log_answer.proofs.LineByLine.{answer-all-readable}
 use Rattle.log_answer.proofs.Parts.{readable-ended}
 use Rattle.call.specs.declared.Settings.{Settings}
 use Rattle.call.specs.declared.Input.{Input}
-use Rattle.call.specs.declared.Send.{Send}
 use Rattle.stepping.specs.Sending.{line_sent}
 use Rattle.private_record.specs.declared.states.PrivateRecord.{PrivateRecord}
 use Rattle.private_call.specs.Step.{step_of, step_buffer}
@@ -173,7 +173,7 @@ demand-2-kept =
           let media = a.1.0 in
           let lent = a.1.1.0.now in
           let after = t.1.1.0.now in
-          let (g, d) = subst (λ (s : Send). GivenExactlyWhen w.number (send_table s media lent) × NothingChanges (line_sent s media) w lent after) sent ((demand-1-kept.by_write_sent κ).and_so a w t x) in
+          let (g, d) = subst (λ (s : Option Message). GivenExactlyWhen w.number (send_table s media lent) × NothingChanges (line_sent s media) w lent after) sent ((demand-1-kept.by_write_sent κ).and_so a w t x) in
           written-reads κr m media lent after w g d e back may) (write-sent-allows κ);
       line_comes_back = λ κ κr. promise (λ a w t x back may e.
           let log = a.0.now in

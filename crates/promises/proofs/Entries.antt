@@ -2,7 +2,7 @@
 use mathlib.Core.Path.{◌≡◌, sym, ap, ap₂, ◌∙◌}
 use contract.Lifetimes as Lifetimes
 use Rattle.reader.specs.Line.{number_of}
-use Rattle.reader.specs.declared.Reading.{Reading}
+use Rattle.reader.specs.Line.{Reading}
 use Rattle.reader.proofs.OnlyLine.{number_read}
 use Rattle.reader.proofs.read_line.Reads as read-line
 use Rattle.chooser.specs.Choice.{choice_of, place, place_of}

@@ -1,14 +1,14 @@
 -- The three demands over the contracts, to be read next, after Demands.antt of `demands`: whatever the contracts of the public functions allow is as the
 -- demands say. Every κ stands for the lifetimes of what is lent, which change nothing; the words of the statements stand in OfContracts.antt and in
 -- `demands`. Assumes nothing.
-use Rattle.std.specs.Prelude.{◌≡◌, ◌⊎◌, ◌↔◌, List, [], ◌∷◌, ℕ, ◌≤◌, length, take}
+use Rattle.std.specs.Prelude.{◌≡◌, ◌⊎◌, ◌↔◌, List, [], ◌∷◌, ℕ, ◌≤◌, length, take, Some}
 use contract.Lifetimes.{Lfts}
 use Rattle.frame.specs.Frame.{kind_of, media_of, GoodFrame}
 use Rattle.frame.specs.Layout.{line_of}
 use Rattle.frame.specs.declared.Media.{Media}
 use Rattle.frame.specs.declared.Message.{Message}
 use Rattle.reader.specs.Line.{number_of, reading, refusal}
-use Rattle.reader.specs.declared.Reading.{Reading}
+use Rattle.reader.specs.Line.{Reading}
 use Rattle.reader.proofs.check_line.Reads as check-line
 use Rattle.reader.proofs.read_line.Reads as read-line
 use Rattle.writer.proofs.write_line.Reads as write-line
@@ -16,7 +16,6 @@ use Rattle.log_answer.specs.Answer.{answer_of}
 use Rattle.log_answer.proofs.answer_log.Reads as answer-log
 use Rattle.call.specs.declared.Settings.{Settings}
 use Rattle.call.specs.declared.Input.{Input}
-use Rattle.call.specs.declared.Send.{Send}
 use Rattle.stepping.specs.Sending.{line_sent}
 use Rattle.stepping.proofs.write_sent.Reads as write-sent
 use Rattle.private_record.specs.declared.states.PrivateRecord.{PrivateRecord}
@@ -29,7 +28,7 @@ use Rattle.chooser.proofs.choice.Reads as choice
 use Rattle.group_record.specs.declared.states.GroupRecord.{GroupRecord}
 use Rattle.group_call.specs.Hearing.{HeardLine, Build, answer_to}
 use Rattle.group_call.proofs.step.Reads as group-step
-use Rattle.demands.specs.Machines.{Answer, Machine, Unrefused, line_to_send, ByRow, private_answer, private_machine, group_answer, group_machine}
+use Rattle.demands.specs.Machines.{Machine, Unrefused, line_to_send, ByRow, private_answer, private_machine, group_answer, group_machine}
 use Rattle.demands.specs.ExactlyWhen.{GivenExactlyWhen, line_table, write_table, send_table, answer_table, choice_table, step_table}
 use Rattle.demands.specs.NothingChanges.{NothingChanges, StepKeeps}
 use Rattle.demands.specs.Consequences.{last_private_row, last_group_row}
@@ -38,6 +37,7 @@ use Rattle.demands.specs.Demands.{MeetsDemands, ByTheRows}
 use Rattle.demands.specs.SameCall.{Cab, call_of, Knows, Together, Best, BestCall, SameCall, AnyOrder}
 use Rattle.demands.specs.BetterLine.{ByBetterCall}
 use Rattle.promises.specs.OfContracts.{Promises, Lent, OfLine, OfTwoLines, OfWriting, OfLog, OfStep, MayRead, MayNumber, MayHandBack, StepBuild, Obeys}
+use Rattle.stepping.specs.Answer.{Answer}
 
 -- ---- Demand 1: whatever comes in gets an answer; what is bad gets its number, and nothing else happens
 
@@ -100,7 +100,7 @@ pub record ByItsRow (M : Machine) (last : ℕ) (s : Settings) (p : M.Stored) (i 
   -- the row is one of the list, or 0
   pub known_row : answer.row ≤ last
   -- the reader gives back what the row sends: its message, and its media where the kind carries media
-  pub reads_back : (κr : Lfts 1) (m : Message) (back : Reading) → answer.number ≡ 0 → M.sent s p i ≡ Send.Message m → MayRead κr (take answer.length after) back
+  pub reads_back : (κr : Lfts 1) (m : Message) (back : Reading) → answer.number ≡ 0 → M.sent s p i ≡ Some m → MayRead κr (take answer.length after) back
       → back ≡ reading m (media_of (kind_of m) (M.media s p i))
   -- a row that clears the record leaves the cleared one
   pub clears : M.Clearing answer.row → answer.next ≡ M.cleared
@@ -126,7 +126,7 @@ pub record Demand2Kept : Type 0 where
       (OfWriting (λ m media lent told after. told.number ≡ 0 → (line : List ℕ) → MayRead κr line (reading m media) → take told.length after ≡ line))
   -- what is written for a step to send reads as the message that was to be sent, with its media where the kind carries media
   pub sent_reads_back : (κ κr : Lfts 1) → Promises (write-sent.Asked κ) (write-sent.Learnt κ)
-      (OfWriting (λ sent media lent told after. (m : Message) → sent ≡ Send.Message m → told.number ≡ 0 → (back : Reading) → MayRead κr (take told.length after) back
+      (OfWriting (λ sent media lent told after. (m : Message) → sent ≡ Some m → told.number ≡ 0 → (back : Reading) → MayRead κr (take told.length after) back
       → back ≡ reading m (media_of (kind_of m) media)))
   -- a log that is one readable line is answered where the line has room, and the answer is that very line
   pub line_comes_back : (κ : Lfts 2) (κr : Lfts 1) → Promises (answer-log.Asked κ) (answer-log.Learnt κ)

@@ -3,7 +3,7 @@ use Rattle.std.specs.Prelude.{◌≡◌, List, ℕ}
 use Rattle.std.specs.Borrow.{Bor, MutBor}
 use contract.Lifetimes.{Lfts}
 use Rattle.frame.specs.declared.Media.{Media}
-use Rattle.reader.specs.declared.Reading.{Reading}
+use Rattle.reader.specs.Line.{Reading}
 use Rattle.reader.proofs.read_line.Reads as read-line
 use Rattle.call.specs.declared.Settings.{Settings}
 use Rattle.call.specs.declared.Input.{Input}

@@ -1,20 +1,20 @@
 -- Runs of digits, told by a table: the table's rule, entries that are joined, and runs that are added up. Assumes nothing.
-use mathlib.Core.Path.{◌≡◌, refl, sym, ap, ◌∙◌}
-use mathlib.Core.List.{List, [], ◌∷◌, ◌++◌}
+use mathlib.Core.Path.{◌≡◌, refl, sym, ap, ap₂, ◌∙◌}
+use mathlib.Core.List.{List, [], ◌∷◌}
 use mathlib.Core.Bool.{Bool, true, false, ◌&&◌, and-true, and_assoc}
-use Prim.Native.Nat.{ℕ, suc, ◌+◌, suc-le-suc}
+use Prim.Native.Nat.{ℕ, suc, ◌+◌, ◌-◌, ◌≤◌, suc-le-suc}
 use native.Mathlib.Nat.{le_refl}
 use native.Mathlib.Omega.{arith}
 use lib.Bits.{bit_or, or_lt, or_add_and, and_le_l, and_le_r}
 use lib.Dec.{ltb, leb}
-use lib.ListN.{length}
+use lib.ListN.{length, take, drop, get_or}
 use borrow.Author.Tests.{leb-true, ltb-true, ltb-false, lt-ltb, le-ltb}
-use lib.Seq.{take-length}
+use lib.Seq.{take-add, take-length}
 use Rattle.frame.specs.Digits.{is_digit, value_of, all_digits}
 use Rattle.frame.proofs.Table.{follows, entry}
 use Rattle.std.proofs.Common.{fold, IsTrue, EachIndex, slice_index, ◌↔◌}
-use Rattle.reader.specs.Table.{entry_of, Entries}
-use Rattle.reader.proofs.Hex.{value-lt}
+use Rattle.reader.specs.Table.{entry_of, Entries, digits_from}
+use Rattle.reader.proofs.Hex.{value-lt, all_behind}
 use Rattle.reader.proofs.Judged.{digit-in}
 
 -- ---- the table
@@ -55,6 +55,14 @@ run-told m (x ∷ run) =
     ∙ ap (λ (b : Bool). b && all_digits run) (joined m (entry_of x) ∙ ap (◌&&◌ (ltb m 16)) (below x))
     ∙ and_assoc (ltb m 16) (is_digit x) (all_digits run)
 
+-- a number that tells of the run of n bytes from place `at` on: it is below 16 exactly where all are digits
+pub record Tells (l : List ℕ) (at n m : ℕ) : Type 0 where
+  pub told : ltb m 16 ≡ digits_from n l at
+
+-- the entry of the next byte is joined to what tells of a run
+pub run-joined : {l : List ℕ} {at n m k : ℕ} → Tells l at n m → k ≡ entry_of (get_or l (at + n) 0) → Tells l at (suc n) (bit_or m k)
+run-joined {l} {at} {n} {m} {k} t f = record { told = joined m k ∙ ap₂ ◌&&◌ t.told (ap (λ (j : ℕ). ltb j 16) f ∙ below (get_or l (at + n) 0)) }
+
 -- ---- runs behind one another
 
 -- bytes each of which is a digit
@@ -72,8 +80,9 @@ each_told false l e = go (all_digits l) refl
     go true t = cc (e.1 (λ i h. digit-in l (length l) i (ap all_digits (take-length l) ∙ t) h (le_refl (length l))))
     go false t = sym t
 
--- a run and what follows it
-pub all_behind : (s t : List ℕ) → all_digits (s ++ t) ≡ (all_digits s && all_digits t)
-unfolding all_digits
-all_behind [] t = refl
-all_behind (x ∷ s) t = ap (◌&&◌ (is_digit x)) (all_behind s t) ∙ sym (and_assoc (is_digit x) (all_digits s) (all_digits t))
+-- where the first i bytes are not all digits, more are not either
+pub not-fewer : (l : List ℕ) (i n : ℕ) → all_digits (take i l) ≡ false → i ≤ n → n ≤ length l → all_digits (take n l) ≡ false
+not-fewer l i n e h k =
+    let q : n ≡ i + (n - i) = omega arith in
+    ap (λ (m : ℕ). all_digits (take m l)) q ∙ ap all_digits (take-add i (n - i) l) ∙ all_behind (take i l) (take (n - i) (drop i l))
+    ∙ ap (λ (b : Bool). b && all_digits (take (n - i) (drop i l))) e

@@ -22,6 +22,7 @@ pub(crate) struct DigitLine<'a> {
 impl<'a> DigitLine<'a> {
     // The line that has these bytes; where they are none, the first of the refusals 1 to 4 that is given.
     #[tactic(auto, unfolding(crate::specs::Line::refusal_of))]
+    #[inline(always)]
     pub(crate) fn new(bytes: &'a [u8]) -> Result<DigitLine<'a>, Refusal>
         ensures { MatchResult result (λ line. (line.bytes.now ≡ bytes.now) × (line_number bytes.now ≡ cond (unranged bytes.now) 5 0)) (λ refusal. line_number bytes.now ≡ refusal_number refusal) }
     {

@@ -12,7 +12,8 @@ use frame::Kind;
 use frame::range::Range;
 
 impl DigitLine<'_> {
-    // Whether a number of one byte is not 0: one of its digits is not `0`.
+    // Whether a number of one byte is not 0: one of its digits is not `0`. This, two_fits and four_fits are compared at
+    // once as they stand; with the width as a parameter the law of two halves would have to go by cases of it.
     fn one_fits(&self, at: usize) -> bool
         requires { at + 2 < length self.now.bytes.now }
         ensures { result ≡ never_zero one (number_at one self.now.bytes.now at) }
@@ -41,7 +42,7 @@ impl DigitLine<'_> {
     fn parties_fit(&self) -> bool
         ensures { result ≡ parties_good (parties_at self.now.bytes.now) }
     {
-        self.two_fits(2) & self.four_fits(6) & self.four_fits(14)
+        self.two_fits(2) && self.four_fits(6) && self.four_fits(14)
     }
 
     // What a setup request says of the call besides: the fields after the media stand from place at on.
@@ -51,8 +52,8 @@ impl DigitLine<'_> {
         ensures { result ≡ setup_good (setup_at self.now.bytes.now at) }
     {
         Range::Flag.has(one_at(self.bytes, 22) as u32)
-            & Range::PrivateType.has(one_at(self.bytes, 24) as u32)
-            & Range::PckId.has(four_at(self.bytes, at))
+            && Range::PrivateType.has(one_at(self.bytes, 24) as u32)
+            && Range::PckId.has(four_at(self.bytes, at))
     }
 
     // The fields of a group call, those after the media from place at on.
@@ -62,13 +63,13 @@ impl DigitLine<'_> {
         ensures { result ≡ group_call_good (group_call_at self.now.bytes.now at) }
     {
         self.two_fits(2)
-            & self.four_fits(6)
-            & Range::GroupType.has(one_at(self.bytes, 14) as u32)
-            & self.two_fits(16)
-            & self.four_fits(at)
-            & Range::Time.has(four_at(self.bytes, at + 8))
-            & Range::Time.has(four_at(self.bytes, at + 16))
-            & self.four_fits(at + 24)
+            && self.four_fits(6)
+            && Range::GroupType.has(one_at(self.bytes, 14) as u32)
+            && self.two_fits(16)
+            && self.four_fits(at)
+            && Range::Time.has(four_at(self.bytes, at + 8))
+            && Range::Time.has(four_at(self.bytes, at + 16))
+            && self.four_fits(at + 24)
     }
 
     // The fields of a group call accept.
@@ -78,26 +79,29 @@ impl DigitLine<'_> {
         ensures { result ≡ acceptance_good (acceptance_at self.now.bytes.now) }
     {
         self.two_fits(2)
-            & self.four_fits(6)
-            & Range::GroupType.has(one_at(self.bytes, 14) as u32)
-            & self.four_fits(16)
+            && self.four_fits(6)
+            && Range::GroupType.has(one_at(self.bytes, 14) as u32)
+            && self.four_fits(16)
     }
 
     // Every field of the frame is in its range.
     #[tactic(auto, unfolding(crate::specs::Line::message_at, crate::specs::Line::media_at, frame::specs::Frame::in_range, frame::specs::Layout::digits_of, frame::specs::Digits::numbers_at))]
+    #[inline(always)]
     pub(crate) fn frame_fits(&self) -> bool
         ensures { result ≡ in_range (message_at (kind_number self.now.kind) self.now.bytes.now) (media_at (kind_number self.now.kind) self.now.bytes.now) }
     {
         match self.kind {
-            Kind::SetupRequest => { self.media_fits(26) & self.parties_fit() & self.setup_fits(34) }
-            Kind::Accept => self.media_fits(22) & self.parties_fit(),
+            Kind::SetupRequest => {
+                self.media_fits(26) && self.parties_fit() && self.setup_fits(34)
+            }
+            Kind::Accept => self.media_fits(22) && self.parties_fit(),
             Kind::Reject => {
-                self.parties_fit() & Range::Reason.has(one_at(self.bytes, 22) as u32)
+                self.parties_fit() && Range::Reason.has(one_at(self.bytes, 22) as u32)
             }
             Kind::Announcement => {
                 self.media_fits(20)
-                    & self.group_call_fits(28)
-                    & Range::Flag.has(one_at(self.bytes, 60) as u32)
+                    && self.group_call_fits(28)
+                    && Range::Flag.has(one_at(self.bytes, 60) as u32)
             }
             Kind::GroupAccept => self.acceptance_fits(),
             Kind::Ringing | Kind::Release | Kind::ReleaseAck | Kind::AcceptAck => {

@@ -1,10 +1,13 @@
 -- A frame as numbers, one a field, in the order of its line: kind, identifier, and what follows. Assumes nothing.
-use Rattle.std.specs.Prelude.{ℕ, ◌+◌, ◌%◌, List, [], ◌∷◌, Bool, not, cond, get_or, length}
+use Rattle.std.specs.Prelude.{ℕ, ◌+◌, ◌%◌, List, [], ◌∷◌, Bool, not, cond, get_or, length, Result}
 use Rattle.frame.specs.Digits.{Width, one, twice, two, size}
 use Rattle.frame.specs.Range.{within}
+use Rattle.frame.specs.Kind.{NamesKind}
 use Rattle.frame.specs.Media.{no_media}
 use Rattle.frame.specs.Frame.{carries}
 use Rattle.frame.specs.Layout.{front, back}
+use Rattle.frame.specs.declared.kind.Kind.{Kind}
+use Rattle.frame.specs.declared.refusal.Refusal.{Refusal}
 use Rattle.frame.specs.declared.Media.{Media}
 use Rattle.frame.specs.declared.Parties.{Parties}
 use Rattle.frame.specs.declared.Setup.{Setup}
@@ -82,6 +85,10 @@ media_in kind values = cond (carries kind) (media_with (get_or values (media_ind
 -- the first value is none of the nine kinds
 abbrev pub no_kind : List ℕ → Bool
 no_kind values = not (within 1 (kind_in values) 9)
+
+-- the kind that they name, where they name one
+abbrev pub IsKindOf : List ℕ → Result Kind Refusal → Type 0
+IsKindOf values answer = NamesKind (kind_in values) answer
 
 -- 3 where there is no kind, else the number of writing the frame: 0, 5 or 6
 unfoldable pub values_number : List ℕ → List ℕ → ℕ

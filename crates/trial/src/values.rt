@@ -1,5 +1,6 @@
 // A frame as numbers, one a field, in the order of its line.
-ghost use Rattle.std.specs.Prelude.{◌≡◌, ◌≤◌, [], ◌∷◌, get_or};
+ghost use Rattle.std.specs.Prelude.{◌≡◌, [], ◌∷◌, get_or};
+ghost use Rattle.frame.specs.Kind.{kind_number};
 ghost use Rattle.frame.specs.Digits.{one, two};
 ghost use Rattle.frame.specs.Layout.{parties_then, acceptance_then};
 ghost use Rattle.frame.specs.declared.Message.TheVariants.{SetupRequest, Announcement};
@@ -8,16 +9,13 @@ ghost use Rattle.trial.specs.Values.{cut, parties_in, setup_in, group_call_in, a
 ghost use Rattle.trial.specs.Values.{media_with, media_in};
 
 use crate::carried::{media_value, media_with};
-use frame::{Acceptance, GroupCall, Media, Message, Parties, Setup};
+use frame::{Acceptance, GroupCall, Kind, Media, Message, Parties, Setup};
 
 // The value at a place, 0 where there is none.
 pub(crate) fn value_at(values: &[u32], place: usize) -> u32
     ensures { result ≡ get_or values.now place 0 }
 {
-    if place < values.len() {
-        return values[place];
-    }
-    0
+    values.get(place).copied().unwrap_or(0)
 }
 
 // The value at a place, cut to a byte.
@@ -36,11 +34,11 @@ fn two_bytes_at(values: &[u32], place: usize) -> u16
 
 // One value of a frame with a private call and one number more: an accept's media, a reject's reason; 0 where there is
 // none.
-fn parties_value(kind: u32, parties: Parties, more: u32, place: usize) -> u32
-    ensures { result ≡ get_or (kind ∷ parties_then parties (more ∷ [])) place 0 }
+fn parties_value(kind: Kind, parties: Parties, more: u32, place: usize) -> u32
+    ensures { result ≡ get_or (kind_number kind ∷ parties_then parties (more ∷ [])) place 0 }
 {
     let values = [
-        kind,
+        kind as u32,
         parties.identifier as u32,
         parties.caller,
         parties.callee,
@@ -107,12 +105,14 @@ pub(crate) fn message_value(message: Message, media: Media, place: usize) -> u32
     let carried = media_value(media);
     match message {
         Message::SetupRequest(parties, setup) => setup_value(parties, setup, carried, place),
-        Message::Ringing(parties) => parties_value(2, parties, 0, place),
-        Message::Accept(parties) => parties_value(3, parties, carried, place),
-        Message::Reject(parties, reason) => parties_value(4, parties, reason as u32, place),
-        Message::Release(parties) => parties_value(5, parties, 0, place),
-        Message::ReleaseAck(parties) => parties_value(6, parties, 0, place),
-        Message::AcceptAck(parties) => parties_value(7, parties, 0, place),
+        Message::Ringing(parties) => parties_value(Kind::Ringing, parties, 0, place),
+        Message::Accept(parties) => parties_value(Kind::Accept, parties, carried, place),
+        Message::Reject(parties, reason) => {
+            parties_value(Kind::Reject, parties, reason as u32, place)
+        }
+        Message::Release(parties) => parties_value(Kind::Release, parties, 0, place),
+        Message::ReleaseAck(parties) => parties_value(Kind::ReleaseAck, parties, 0, place),
+        Message::AcceptAck(parties) => parties_value(Kind::AcceptAck, parties, 0, place),
         Message::Announcement(call, confirm) => announcement_value(call, confirm, carried, place),
         Message::GroupAccept(acceptance) => acceptance_value(acceptance, place),
     }
@@ -169,31 +169,32 @@ fn acceptance_from(values: &[u32]) -> Acceptance
 }
 
 // The message of a kind with these values.
-pub(crate) fn message_from(kind: u32, values: &[u32]) -> Message
-    requires { (1 ≤ kind) × (kind ≤ 9) }
-    ensures { result ≡ message_in kind values.now }
+pub(crate) fn message_from(kind: Kind, values: &[u32]) -> Message
+    ensures { result ≡ message_in (kind_number kind) values.now }
 {
     match kind {
-        1 => Message::SetupRequest(parties_from(values), setup_from(values)),
-        2 => Message::Ringing(parties_from(values)),
-        3 => Message::Accept(parties_from(values)),
-        4 => Message::Reject(parties_from(values), byte_at(values, 4)),
-        5 => Message::Release(parties_from(values)),
-        6 => Message::ReleaseAck(parties_from(values)),
-        7 => Message::AcceptAck(parties_from(values)),
-        8 => Message::Announcement(group_call_from(values), byte_at(values, 10)),
-        _ => Message::GroupAccept(acceptance_from(values)),
+        Kind::SetupRequest => Message::SetupRequest(parties_from(values), setup_from(values)),
+        Kind::Ringing => Message::Ringing(parties_from(values)),
+        Kind::Accept => Message::Accept(parties_from(values)),
+        Kind::Reject => Message::Reject(parties_from(values), byte_at(values, 4)),
+        Kind::Release => Message::Release(parties_from(values)),
+        Kind::ReleaseAck => Message::ReleaseAck(parties_from(values)),
+        Kind::AcceptAck => Message::AcceptAck(parties_from(values)),
+        Kind::Announcement => {
+            Message::Announcement(group_call_from(values), byte_at(values, 10))
+        }
+        Kind::GroupAccept => Message::GroupAccept(acceptance_from(values)),
     }
 }
 
 // The media of a kind with these values, none where the kind carries none.
-pub(crate) fn media_from(kind: u32, values: &[u32]) -> Media
-    ensures { result ≡ media_in kind values.now }
+pub(crate) fn media_from(kind: Kind, values: &[u32]) -> Media
+    ensures { result ≡ media_in (kind_number kind) values.now }
 {
     match kind {
-        1 => media_with(value_at(values, 6)),
-        3 => media_with(value_at(values, 4)),
-        8 => media_with(value_at(values, 5)),
+        Kind::SetupRequest => media_with(value_at(values, 6)),
+        Kind::Accept => media_with(value_at(values, 4)),
+        Kind::Announcement => media_with(value_at(values, 5)),
         _ => Media::NONE,
     }
 }

@@ -1,18 +1,23 @@
--- Both lines are readable: the number is 10 where neither is chosen, else 0.
-use Rattle.std.proofs.Common.{sym, ◌∙◌}
-use borrow.Author.Tests.{eq-eqb}
-use Rattle.chooser.specs.Choice.{choice_number}
+-- Both lines are readable: the number is 10 where neither is chosen, else 0. Assumes nothing.
+use Rattle.std.proofs.Common.{◌≡◌, sym, ◌∙◌, arith, Some}
+use Rattle.chooser.specs.Choice.{chosen_number, choice_number}
+use Rattle.chooser.specs.declared.Winner.{Winner}
+use Rattle.chooser.specs.declared.Winner.TheVariants.{First, Second}
 use Rattle.chooser.proofs.Laws.{neither-line, one_line}
 use Rattle.chooser.proofs.choose_number.Goals as goal
 
-pub returns-then-choice-eq0 : goal.returns-then-choice-eq0
-unfolding choice_number
-returns-then-choice-eq0 c =
-    let neither = neither-line c.args.first.now c.args.second.now (sym c.choice.ensures ∙ c.if-choice-eq0.true) in
-    rw (neither, ← c.check_line-number.ensures, ← c.check_line-next.ensures, eq-eqb _ _ c.if-number-ne0.false, eq-eqb _ _ c.if-next-ne0.false)
+-- the number of a winner is not 0
+winner-not-0 : (w : Winner) → chosen_number (Some w) ≡ 0 → ⊥
+winner-not-0 First e = omega arith
+winner-not-0 Second e = omega arith
 
-pub returns : goal.returns
+pub returns-in-Some : goal.returns-in-Some
 unfolding choice_number
-returns c =
-    let one = one_line c.args.first.now c.args.second.now (λ e. c.if-choice-eq0.false (c.choice.ensures ∙ e)) in
-    rw (one, ← c.check_line-number.ensures, ← c.check_line-next.ensures, eq-eqb _ _ c.if-number-ne0.false, eq-eqb _ _ c.if-next-ne0.false)
+returns-in-Some c =
+    let one = one_line c.args.first.now c.args.second.now (λ e. winner-not-0 c.in-Some.field-0 (c.in-Some.ensures ∙ e)) in
+    rw (one, ← c.in_ok-check_line.ensures, ← c.in_ok-check_line-2.ensures)
+
+pub returns-in-None : goal.returns-in-None
+unfolding choice_number
+returns-in-None c =
+    rw (neither-line c.args.first.now c.args.second.now (sym c.in-None.ensures), ← c.in_ok-check_line.ensures, ← c.in_ok-check_line-2.ensures)

@@ -1,7 +1,8 @@
 -- The table has the rule, which is tested at all of its 256 entries; the bytes are the few and the eights.
 use Rattle.std.proofs.Common.{Bool, ◌&&◌, rules, sym, ap, ◌∙◌}
 use Rattle.frame.specs.Digits.{all_digits}
-use Rattle.reader.proofs.Runs.{entries, all_behind}
+use Rattle.reader.proofs.Hex.{all_behind}
+use Rattle.reader.proofs.Runs.{entries}
 use Rattle.reader.proofs.table.all_digits.Goals as goal
 
 pub new-table-requires : goal.new-table-requires

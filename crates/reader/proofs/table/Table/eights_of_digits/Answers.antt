@@ -2,7 +2,7 @@
 use Rattle.std.proofs.Common.{Bool, ◌&&◌, ◌≡◌, [], length, sym, ap, ◌∙◌, arith, length-append}
 use Rattle.std.proofs.lemmas.List.{nil_from_length}
 use Rattle.frame.specs.Digits.{all_digits}
-use Rattle.reader.proofs.Runs.{all_behind}
+use Rattle.reader.proofs.Hex.{all_behind}
 use Rattle.reader.proofs.table.Table.eights_of_digits.Goals as goal
 
 pub returns-then-not-run_of_digits : goal.returns-then-not-run_of_digits

@@ -49,15 +49,13 @@ impl Script {
 
     // Plays it and tells how it ends.
     fn play(&self, rt: &(impl Print + AllocGlobal)) -> io::Result<()> {
-        println!(
-            rt;
+        println!(rt;
             "# command cab machine number row before after stopped started running counters call sent untouched"
         )?;
         let mut shift = Shift::begun();
         shift.play(rt, self.played())?;
         if self.cut {
-            println!(
-                rt;
+            println!(rt;
                 "! the script has more than 65536 bytes: only the lines that end within them were played"
             )?;
         }

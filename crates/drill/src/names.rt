@@ -36,7 +36,8 @@ impl<'a> Words<'a> {
     // Whether a word ahead of this one has the name.
     fn names_before(self, word: Word<'a>, name: &[u8]) -> bool {
         self.take_while(|earlier| earlier.at < word.at)
-            .any(|earlier| parts(earlier).is_some_and(|(given, _)| given == name))
+            .filter_map(parts)
+            .any(|(given, _)| given == name)
     }
 
     // Nothing, where no word follows.
@@ -189,22 +190,31 @@ fn set_raise(raise: &mut GroupRaise, name: &[u8], word: &[u8]) -> Result<(), Com
     }
 }
 
-// What a step takes in: the verdicts, and what the user's start or raise names.
+// What an event names, beside it the media: the user's starts and raise do.
+fn set_event(
+    event: &mut Event,
+    media: &mut Media,
+    name: &[u8],
+    word: &[u8],
+) -> Result<(), Complaint> {
+    match event {
+        Event::Action(Action::Private(PrivateAction::Start(start))) => {
+            set_private_start(start, media, name, word)
+        }
+        Event::Action(Action::Group(GroupAction::Start(start))) => {
+            set_group_start(start, media, name, word)
+        }
+        Event::Action(Action::Group(GroupAction::Raise(raise))) => set_raise(raise, name, word),
+        _ => Err(Complaint::Name),
+    }
+}
+
+// What a step takes in: the verdicts, and what its event names.
 impl Names for Input {
     fn set(&mut self, name: &[u8], word: &[u8]) -> Result<(), Complaint> {
-        let verdict = self.verdicts.set(name, word);
-        if !matches!(verdict, Err(Complaint::Name)) {
-            return verdict;
-        }
-        match &mut self.event {
-            Event::Action(Action::Private(PrivateAction::Start(start))) => {
-                set_private_start(start, &mut self.media, name, word)
-            }
-            Event::Action(Action::Group(GroupAction::Start(start))) => {
-                set_group_start(start, &mut self.media, name, word)
-            }
-            Event::Action(Action::Group(GroupAction::Raise(raise))) => set_raise(raise, name, word),
-            _ => Err(Complaint::Name),
+        match self.verdicts.set(name, word) {
+            Err(Complaint::Name) => set_event(&mut self.event, &mut self.media, name, word),
+            told => told,
         }
     }
 }

@@ -77,10 +77,7 @@ impl fmt::Display for Record {
 }
 
 // The counters and the call of a private record.
-fn write_private<W: fmt::Write>(
-    f: &mut fmt::Formatter<W>,
-    record: &PrivateRecord,
-) -> fmt::Result {
+fn write_private<W: fmt::Write>(f: &mut fmt::Formatter<W>, record: &PrivateRecord) -> fmt::Result {
     let Counters { cfp1, cfp3, cfp4 } = record.counters;
     let PrivateCall {
         parties,
@@ -95,8 +92,14 @@ fn write_private<W: fmt::Write>(
     } = parties;
     let media = media.number;
     write!(f, "CFP1={cfp1},CFP3={cfp3},CFP4={cfp4} ")?;
-    write!(f, "identifier={identifier},caller={caller},callee={callee},")?;
-    write!(f, "commencement={commencement},media={media},pck-id=0x{pck_id:08x}")
+    write!(
+        f,
+        "identifier={identifier},caller={caller},callee={callee},"
+    )?;
+    write!(
+        f,
+        "commencement={commencement},media={media},pck-id=0x{pck_id:08x}"
+    )
 }
 
 // The counters, of which there are none, and the call of a group record.
@@ -112,9 +115,18 @@ fn write_group<W: fmt::Write>(f: &mut fmt::Formatter<W>, record: &GroupRecord) -
         last_changer,
     } = record.call;
     let media = record.media.number;
-    write!(f, "- group={group},identifier={identifier},type={call_type},")?;
-    write!(f, "refresh={refresh},media={media},originator={originator},")?;
-    write!(f, "start={start},last-change={last_change},last-changer={last_changer}")
+    write!(
+        f,
+        "- group={group},identifier={identifier},type={call_type},"
+    )?;
+    write!(
+        f,
+        "refresh={refresh},media={media},originator={originator},"
+    )?;
+    write!(
+        f,
+        "start={start},last-change={last_change},last-changer={last_changer}"
+    )
 }
 
 // The timers of the set.
@@ -198,6 +210,9 @@ impl fmt::Display for Step<'_> {
         let after = next.state();
         let sent = self.sent.unwrap_or("-");
         let untouched = self.untouched;
-        write!(f, " {before} {after} {stop} {start} {next} {sent} {untouched}")
+        write!(
+            f,
+            " {before} {after} {stop} {start} {next} {sent} {untouched}"
+        )
     }
 }

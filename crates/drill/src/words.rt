@@ -47,6 +47,7 @@ impl<'a> Words<'a> {
     }
 }
 
+// Word by word. Behind the last it stands where a comment begins, or at the end of the line.
 impl<'a> Iterator for Words<'a> {
     type Item = Word<'a>;
 
@@ -56,15 +57,13 @@ impl<'a> Iterator for Words<'a> {
         let line = self.line;
         let from = find(line, self.at, |byte| !is_blank(byte));
         self.at = from;
-        if from < line.len() {
-            if line[from] != b'#' {
-                let to = find(line, from + 1, is_blank);
-                self.at = to;
-                return Some(Word {
-                    text: &line[from..to],
-                    at: from,
-                });
-            }
+        if from < line.len() && line[from] != b'#' {
+            let to = find(line, from + 1, is_blank);
+            self.at = to;
+            return Some(Word {
+                text: &line[from..to],
+                at: from,
+            });
         }
         None
     }
@@ -83,5 +82,8 @@ fn find<F: Fn(u8) -> bool>(text: &[u8], from: usize, is_so: F) -> usize
     ensures result_le_length { result ≤ length text.now }
 {
     let rest = &text[from..];
-    from + rest.iter().position(|byte| is_so(*byte)).unwrap_or(rest.len())
+    from + rest
+        .iter()
+        .position(|byte| is_so(*byte))
+        .unwrap_or(rest.len())
 }

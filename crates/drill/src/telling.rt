@@ -2,9 +2,8 @@
 use crate::cabs::CabName;
 use crate::machines::{Machine, Record, Stepped, Timers};
 use call::Counters;
-use frame::{GroupCall, Parties};
 use group_record::states::GroupRecord;
-use private_record::states::{PrivateCall, PrivateRecord};
+use private_record::states::PrivateRecord;
 use std::fmt;
 
 // Whose turn it is: the number of the command, and the cab that it names.
@@ -28,16 +27,6 @@ impl fmt::Display for Machine {
         match self {
             Machine::Private => write!(f, "private"),
             Machine::Group => write!(f, "group"),
-        }
-    }
-}
-
-impl Machine {
-    // The letter of its rows.
-    fn letter(self) -> char {
-        match self {
-            Machine::Private => 'R',
-            Machine::Group => 'G',
         }
     }
 }
@@ -79,54 +68,28 @@ impl fmt::Display for Record {
 // The counters and the call of a private record.
 fn write_private<W: fmt::Write>(f: &mut fmt::Formatter<W>, record: &PrivateRecord) -> fmt::Result {
     let Counters { cfp1, cfp3, cfp4 } = record.counters;
-    let PrivateCall {
-        parties,
-        commencement,
-        media,
-        pck_id,
-    } = record.call;
-    let Parties {
-        identifier,
-        caller,
-        callee,
-    } = parties;
-    let media = media.number;
-    write!(f, "CFP1={cfp1},CFP3={cfp3},CFP4={cfp4} ")?;
-    write!(
-        f,
-        "identifier={identifier},caller={caller},callee={callee},"
-    )?;
-    write!(
-        f,
-        "commencement={commencement},media={media},pck-id=0x{pck_id:08x}"
-    )
+    write!(f, "CFP1={cfp1},CFP3={cfp3},CFP4={cfp4}")?;
+    let call = record.call;
+    write!(f, " identifier={}", call.parties.identifier)?;
+    write!(f, ",caller={}", call.parties.caller)?;
+    write!(f, ",callee={}", call.parties.callee)?;
+    write!(f, ",commencement={}", call.commencement)?;
+    write!(f, ",media={}", call.media.number)?;
+    write!(f, ",pck-id=0x{:08x}", call.pck_id)
 }
 
 // The counters, of which there are none, and the call of a group record.
 fn write_group<W: fmt::Write>(f: &mut fmt::Formatter<W>, record: &GroupRecord) -> fmt::Result {
-    let GroupCall {
-        identifier,
-        group,
-        call_type,
-        refresh,
-        originator,
-        start,
-        last_change,
-        last_changer,
-    } = record.call;
-    let media = record.media.number;
-    write!(
-        f,
-        "- group={group},identifier={identifier},type={call_type},"
-    )?;
-    write!(
-        f,
-        "refresh={refresh},media={media},originator={originator},"
-    )?;
-    write!(
-        f,
-        "start={start},last-change={last_change},last-changer={last_changer}"
-    )
+    let call = record.call;
+    write!(f, "- group={}", call.group)?;
+    write!(f, ",identifier={}", call.identifier)?;
+    write!(f, ",type={}", call.call_type)?;
+    write!(f, ",refresh={}", call.refresh)?;
+    write!(f, ",media={}", record.media.number)?;
+    write!(f, ",originator={}", call.originator)?;
+    write!(f, ",start={}", call.start)?;
+    write!(f, ",last-change={}", call.last_change)?;
+    write!(f, ",last-changer={}", call.last_changer)
 }
 
 // The timers of the set.
@@ -185,34 +148,51 @@ pub(crate) struct Step<'a> {
     pub(crate) untouched: usize,
 }
 
+impl Step<'_> {
+    // The row that it met.
+    fn row(&self) -> Row {
+        Row {
+            machine: self.stored.machine(),
+            number: self.stepped.row,
+        }
+    }
+}
+
 // A line of the answer.
 impl fmt::Display for Step<'_> {
     fn fmt<W: fmt::Write>(&self, f: &mut fmt::Formatter<W>) -> fmt::Result {
         let Stepped {
             number,
-            row,
-            next,
             stop,
             start,
+            next,
             ..
         } = self.stepped;
-        let turn = self.turn;
-        let machine = next.machine();
-        write!(f, "{turn} {machine} {number} ")?;
-        match row {
-            0 => write!(f, "-")?,
-            _ => {
-                let letter = machine.letter();
-                write!(f, "{letter}{row}")?;
-            }
-        }
-        let before = self.stored.state();
-        let after = next.state();
+        let (turn, machine, row) = (self.turn, self.stored.machine(), self.row());
+        write!(f, "{turn} {machine} {number} {row}")?;
+        let (before, after) = (self.stored.state(), next.state());
+        write!(f, " {before} {after} {stop} {start} {next}")?;
         let sent = self.sent.unwrap_or("-");
         let untouched = self.untouched;
-        write!(
-            f,
-            " {before} {after} {stop} {start} {next} {sent} {untouched}"
-        )
+        write!(f, " {sent} {untouched}")
+    }
+}
+
+// A row of a machine; none has number 0.
+#[derive(Clone, Copy)]
+struct Row {
+    machine: Machine,
+    number: u8,
+}
+
+// The letter of the machine and the number; `-` where there is none.
+impl fmt::Display for Row {
+    fn fmt<W: fmt::Write>(&self, f: &mut fmt::Formatter<W>) -> fmt::Result {
+        let number = self.number;
+        match self.machine {
+            _ if number == 0 => write!(f, "-"),
+            Machine::Private => write!(f, "R{number}"),
+            Machine::Group => write!(f, "G{number}"),
+        }
     }
 }

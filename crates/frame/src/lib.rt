@@ -5,7 +5,7 @@ mod carried;
 pub mod range;
 
 // What stands beside a message whose kind carries media: today a number.
-#[derive(Clone, Copy)]
+#[derive(Clone, Copy, PartialEq, Eq)]
 pub struct Media {
     pub number: u32,
 }
@@ -16,7 +16,7 @@ impl Media {
 }
 
 // A private call: its identifier and its two users.
-#[derive(Clone, Copy)]
+#[derive(Clone, Copy, PartialEq, Eq)]
 pub struct Parties {
     pub identifier: u16,
     pub caller: u32,
@@ -46,7 +46,7 @@ impl Setup {
 }
 
 // A group call, all but its media.
-#[derive(Clone, Copy)]
+#[derive(Clone, Copy, PartialEq, Eq)]
 pub struct GroupCall {
     pub identifier: u16,
     pub group: u32,

@@ -101,7 +101,7 @@ impl Timers {
 }
 
 // What is known of a call.
-#[derive(Clone, Copy)]
+#[derive(Clone, Copy, PartialEq, Eq)]
 pub struct PrivateCall {
     pub parties: Parties,
     pub commencement: u8,

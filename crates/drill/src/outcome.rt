@@ -6,12 +6,9 @@ use private_record::states::PrivateCall;
 use std::io;
 
 // A call that a cab is in.
-trait Call: Copy {
+trait Call: Copy + PartialEq {
     // Its identifier.
     fn identifier(&self) -> u16;
-
-    // Whether it is the same as another in every field.
-    fn is_alike(&self, other: &Self) -> bool;
 }
 
 // A private call.
@@ -19,35 +16,12 @@ impl Call for PrivateCall {
     fn identifier(&self) -> u16 {
         self.parties.identifier
     }
-
-    fn is_alike(&self, other: &PrivateCall) -> bool {
-        self.parties.identifier == other.parties.identifier
-            && self.parties.caller == other.parties.caller
-            && self.parties.callee == other.parties.callee
-            && self.commencement == other.commencement
-            && self.media.number == other.media.number
-            && self.pck_id == other.pck_id
-    }
 }
 
 // A group call with its media.
 impl Call for (GroupCall, Media) {
     fn identifier(&self) -> u16 {
         self.0.identifier
-    }
-
-    fn is_alike(&self, other: &(GroupCall, Media)) -> bool {
-        let (call, media) = self;
-        let (other_call, other_media) = other;
-        call.identifier == other_call.identifier
-            && call.group == other_call.group
-            && call.call_type == other_call.call_type
-            && call.refresh == other_call.refresh
-            && call.originator == other_call.originator
-            && call.start == other_call.start
-            && call.last_change == other_call.last_change
-            && call.last_changer == other_call.last_changer
-            && media.number == other_media.number
     }
 }
 
@@ -72,7 +46,7 @@ fn standing<C: Call>(of_a: Option<C>, of_b: Option<C>) -> &'static str {
         (Some(_), None) => "cab a is in a call, cab b is in none.",
         (None, Some(_)) => "cab b is in a call, cab a is in none.",
         (Some(one), Some(other)) => {
-            if one.is_alike(&other) {
+            if one == other {
                 "both cabs are in the same call."
             } else if one.identifier() == other.identifier() {
                 "the cabs are in calls with the same identifier that differ in other fields."

@@ -1,154 +1,197 @@
-// What a command asks for, as a number, from the words behind its cab.
-use crate::complaints::{COMMAND, EXPIRES, GROUP_COMMAND, NOTHING, PRIVATE_COMMAND};
-use crate::words::{NOWHERE, next_word, place_in, word_at};
+// What a command asks for, read from the words behind the name of its cab.
+use crate::cabs::{Buffer, Cab, CabName, Shift};
+use crate::complaints::{Complaint, Fault};
+use crate::words::{Word, Words};
+use call::{
+    Action, Event, GroupAction, GroupRaise, GroupStart, GroupTimer, Input, PrivateAction,
+    PrivateStart, PrivateTimer, Settings, Timer, Verdicts,
+};
+use frame::Media;
+use group_record::states::GroupRecord;
+use private_record::states::PrivateRecord;
 
-// Settings are set.
-pub(crate) const SETTINGS: usize = 0;
-
-// The length of the buffer is set.
-pub(crate) const BUFFER: usize = 1;
-
-// A line is heard.
-pub(crate) const HEARS: usize = 2;
-
-// The chooser is asked.
-pub(crate) const CHOOSES: usize = 3;
-
-// The user starts a private call; the words behind `private` count on from here.
-pub(crate) const PRIVATE_START: usize = 4;
-
-// The user ends it.
-pub(crate) const PRIVATE_END: usize = 5;
-
-// The user accepts it.
-pub(crate) const PRIVATE_ACCEPT: usize = 6;
-
-// The user rejects it.
-pub(crate) const PRIVATE_REJECT: usize = 7;
-
-// The private record is set by hand.
-pub(crate) const PRIVATE_RECORD: usize = 8;
-
-// The private record is cleared.
-pub(crate) const PRIVATE_CLEARED: usize = 9;
-
-// The user starts a group call; the words behind `group` count on from here.
-pub(crate) const GROUP_START: usize = 10;
-
-// The user accepts it.
-pub(crate) const GROUP_ACCEPT: usize = 11;
-
-// The user rejects it.
-pub(crate) const GROUP_REJECT: usize = 12;
-
-// The user leaves it.
-pub(crate) const GROUP_LEAVE: usize = 13;
-
-// The user raises its type.
-pub(crate) const GROUP_RAISE: usize = 14;
-
-// The group record is set by hand.
-pub(crate) const GROUP_RECORD: usize = 15;
-
-// The group record is cleared.
-pub(crate) const GROUP_CLEARED: usize = 16;
-
-// TFP1 runs out; the other timers count on from here.
-pub(crate) const TFP1: usize = 17;
-
-// TFP2 runs out.
-pub(crate) const TFP2: usize = 18;
-
-// TFP3 runs out.
-pub(crate) const TFP3: usize = 19;
-
-// TFP4 runs out.
-pub(crate) const TFP4: usize = 20;
-
-// TFP5 runs out.
-pub(crate) const TFP5: usize = 21;
-
-// TFP7 runs out.
-pub(crate) const TFP7: usize = 22;
-
-// TFG2 runs out.
-pub(crate) const TFG2: usize = 23;
-
-// TFG4 runs out.
-pub(crate) const TFG4: usize = 24;
-
-// TFG6 runs out.
-pub(crate) const TFG6: usize = 25;
-
-// What a command asks for, with the place behind its words; or what is wrong, with the place of the wrong word.
+// A line that a command names: the one that a cab sent last, or one of these digits.
 #[derive(Clone, Copy)]
-pub(crate) struct Command {
-    pub(crate) asked: usize,
-    pub(crate) complaint: usize,
-    pub(crate) at: usize,
+pub(crate) enum Line<'a> {
+    SentLastBy(CabName),
+    Digits(&'a [u8]),
 }
 
-// The command whose next word is at this place of a list, where the list's commands begin at a number; or the
-// complaint.
-fn listed(line: &[u8], at: usize, list: &[u8], first: usize, complaint: usize) -> Command {
-    let next = next_word(line, at);
-    let place = place_in(list, word_at(line, next));
-    if place == NOWHERE {
-        return Command {
-            asked: SETTINGS,
-            complaint: complaint,
-            at: next.from,
-        };
-    }
-    Command {
-        asked: sum(first, place),
-        complaint: NOTHING,
-        at: next.to,
-    }
+// How a line is heard: whether it is ended, and the host's verdicts.
+#[derive(Clone, Copy)]
+pub(crate) struct Hearing {
+    pub(crate) ended: bool,
+    pub(crate) verdicts: Verdicts,
 }
 
-// The number of a command: where its list begins, and its place in the list.
-fn sum(first: usize, place: usize) -> usize {
-    if first < 32 {
-        if place < 32 {
-            return first + place;
+// What a command asks for: what is to be set, what happens to a machine, a line to be heard, or two to choose from.
+#[derive(Clone, Copy)]
+pub(crate) enum Command<'a> {
+    Settings(Settings),
+    Buffer(Buffer),
+    PrivateRecord(PrivateRecord),
+    GroupRecord(GroupRecord),
+    Happens(Input),
+    Hears(Line<'a>, Hearing),
+    Chooses(Line<'a>, Line<'a>),
+}
+
+// The verdicts where none is named.
+const GOOD: Verdicts = Verdicts {
+    media: true,
+    signature: true,
+};
+
+// The user's start of a private call where nothing is named.
+const PRIVATE_START: PrivateStart = PrivateStart {
+    identifier: 0,
+    callee: 0,
+    commencement: 0,
+    pck_id: 0,
+};
+
+// The user's start of a group call where nothing is named.
+const GROUP_START: GroupStart = GroupStart {
+    identifier: 0,
+    call_type: 0,
+    refresh: 0,
+    confirm: 0,
+    now: 0,
+};
+
+// The user's raise of a group call where nothing is named.
+const GROUP_RAISE: GroupRaise = GroupRaise {
+    call_type: 0,
+    now: 0,
+};
+
+impl<'a> Command<'a> {
+    // The command of a cab that these words give.
+    pub(crate) fn read(
+        mut words: Words<'a>,
+        shift: &Shift,
+        cab: &Cab,
+    ) -> Result<Command<'a>, Fault> {
+        let word = words.expect(Complaint::Command)?;
+        match word.text {
+            b"settings" => Ok(Command::Settings(words.named(cab.settings)?)),
+            b"buffer" => Ok(Command::Buffer(words.named(cab.buffer)?)),
+            b"private" => Command::private(words, cab),
+            b"group" => Command::group(words, cab),
+            b"hears" => Command::hears(words, shift),
+            b"chooses" => Command::chooses(words, shift),
+            _ => Command::expires(word, words),
         }
     }
-    0
-}
 
-// A timer that runs out: behind it the word `expires`.
-fn expiry_in(line: &[u8], at: usize) -> Command {
-    let timer = listed(
-        line,
-        at,
-        b"TFP1 TFP2 TFP3 TFP4 TFP5 TFP7 TFG2 TFG4 TFG6",
-        TFP1,
-        COMMAND,
-    );
-    if timer.complaint != NOTHING {
-        return timer;
+    // The event with what the words name beside it.
+    fn happens(event: Event, words: Words<'a>) -> Result<Command<'a>, Fault> {
+        let unnamed = Input {
+            event,
+            media: Media::NONE,
+            verdicts: GOOD,
+        };
+        Ok(Command::Happens(words.named(unnamed)?))
     }
-    listed(line, timer.at, b"expires", timer.asked, EXPIRES)
+
+    // The command that the words behind `private` give.
+    fn private(mut words: Words<'a>, cab: &Cab) -> Result<Command<'a>, Fault> {
+        let word = words.expect(Complaint::PrivateCommand)?;
+        let action = match word.text {
+            b"start" => PrivateAction::Start(PRIVATE_START),
+            b"end" => PrivateAction::End,
+            b"accept" => PrivateAction::Accept,
+            b"reject" => PrivateAction::Reject,
+            b"record" => return Ok(Command::PrivateRecord(words.named(cab.private)?)),
+            b"cleared" => {
+                words.end()?;
+                return Ok(Command::PrivateRecord(PrivateRecord::cleared()));
+            }
+            _ => return Err(word.fault(Complaint::PrivateCommand)),
+        };
+        Command::happens(Event::Action(Action::Private(action)), words)
+    }
+
+    // The command that the words behind `group` give.
+    fn group(mut words: Words<'a>, cab: &Cab) -> Result<Command<'a>, Fault> {
+        let word = words.expect(Complaint::GroupCommand)?;
+        let action = match word.text {
+            b"start" => GroupAction::Start(GROUP_START),
+            b"accept" => GroupAction::Accept,
+            b"reject" => GroupAction::Reject,
+            b"leave" => GroupAction::Leave,
+            b"raise" => GroupAction::Raise(GROUP_RAISE),
+            b"record" => return Ok(Command::GroupRecord(words.named(cab.group)?)),
+            b"cleared" => {
+                words.end()?;
+                return Ok(Command::GroupRecord(GroupRecord::cleared()));
+            }
+            _ => return Err(word.fault(Complaint::GroupCommand)),
+        };
+        Command::happens(Event::Action(Action::Group(action)), words)
+    }
+
+    // The command that the words behind `hears` give.
+    fn hears(mut words: Words<'a>, shift: &Shift) -> Result<Command<'a>, Fault> {
+        let line = Line::read(&mut words, shift)?;
+        let unnamed = Hearing {
+            ended: true,
+            verdicts: GOOD,
+        };
+        Ok(Command::Hears(line, words.named(unnamed)?))
+    }
+
+    // The command that the words behind `chooses` give.
+    fn chooses(mut words: Words<'a>, shift: &Shift) -> Result<Command<'a>, Fault> {
+        let first = Line::read(&mut words, shift)?;
+        let second = Line::read(&mut words, shift)?;
+        words.end()?;
+        Ok(Command::Chooses(first, second))
+    }
+
+    // The command that the name of a timer begins, with the words behind it.
+    fn expires(name: Word<'a>, mut words: Words<'a>) -> Result<Command<'a>, Fault> {
+        let timer = timer_of(name.text).ok_or(name.fault(Complaint::Command))?;
+        let word = words.expect(Complaint::Expires)?;
+        match word.text {
+            b"expires" => Command::happens(Event::Expiry(timer), words),
+            _ => Err(word.fault(Complaint::Expires)),
+        }
+    }
 }
 
-// The command that a line gives behind the name of the cab.
-pub(crate) fn command_in(line: &[u8], at: usize) -> Command {
-    let next = next_word(line, at);
-    let place = place_in(
-        b"settings buffer hears chooses private group",
-        word_at(line, next),
-    );
-    let private = b"start end accept reject record cleared";
-    let group = b"start accept reject leave raise record cleared";
-    match place {
-        4 => listed(line, next.to, private, PRIVATE_START, PRIVATE_COMMAND),
-        5 => listed(line, next.to, group, GROUP_START, GROUP_COMMAND),
-        NOWHERE => expiry_in(line, at),
-        _ => Command {
-            asked: place,
-            complaint: NOTHING,
-            at: next.to,
-        },
+impl<'a> Line<'a> {
+    // The line that the next word names.
+    fn read(words: &mut Words<'a>, shift: &Shift) -> Result<Line<'a>, Fault> {
+        let word = words.expect(Complaint::Line)?;
+        if word.text.contains(&b'=') {
+            return Err(word.fault(Complaint::Line));
+        }
+        match CabName::read(word.text) {
+            Some(name) if shift.cab(name).sent.is_none() => {
+                Err(word.fault(Complaint::NoLineOf(name)))
+            }
+            Some(name) => Ok(Line::SentLastBy(name)),
+            None => Ok(Line::Digits(match word.text {
+                b"nothing" => &[],
+                digits => digits,
+            })),
+        }
+    }
+}
+
+// The timer of this name.
+fn timer_of(name: &[u8]) -> Option<Timer> {
+    match name {
+        b"TFP1" => Some(Timer::Private(PrivateTimer::Tfp1)),
+        b"TFP2" => Some(Timer::Private(PrivateTimer::Tfp2)),
+        b"TFP3" => Some(Timer::Private(PrivateTimer::Tfp3)),
+        b"TFP4" => Some(Timer::Private(PrivateTimer::Tfp4)),
+        b"TFP5" => Some(Timer::Private(PrivateTimer::Tfp5)),
+        b"TFP7" => Some(Timer::Private(PrivateTimer::Tfp7)),
+        b"TFG2" => Some(Timer::Group(GroupTimer::Tfg2)),
+        b"TFG4" => Some(Timer::Group(GroupTimer::Tfg4)),
+        b"TFG6" => Some(Timer::Group(GroupTimer::Tfg6)),
+        _ => None,
     }
 }

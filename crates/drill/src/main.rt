@@ -1,21 +1,15 @@
 // The program that plays a script of two cabs through the machines, step by step: docs/DRILL.md has its language.
 #![tactic(auto)]
 
-ghost use Rattle.std.specs.Prelude.{◌≤◌, IfOk};
-
 mod cabs;
 mod commands;
 mod complaints;
-mod happenings;
-mod lines_heard;
-mod lists;
+mod machines;
 mod names;
 mod outcome;
 mod playing;
-mod records;
-mod steps;
 mod telling;
-mod text;
+mod values;
 mod words;
 
 use cabs::Shift;
@@ -25,79 +19,58 @@ use std::io::Read;
 // How many bytes of a script are read at most.
 const MOST: usize = 65_536;
 
-// Reads standard input to its first end, or as far as there is room; how many bytes came. A read that fails is told.
-fn read_full(input: &mut impl Read, room: &mut [u8; MOST]) -> io::Result<usize>
-    ensures { IfOk result (λ length. length ≤ 65536) }
-{
-    let mut length = 0;
-    for _ in 0..MOST {
-        let got = input.read(&mut room[length..])?;
-        if got == 0 {
-            break;
+// A script, and whether it was cut: whether more came behind the most that is read of it.
+#[derive(Drop)]
+struct Script {
+    text: Vec<u8>,
+    cut: bool,
+}
+
+impl Script {
+    // Reads standard input to its first end, or as far as is read at most; only then is it asked whether more comes.
+    fn read(rt: &HostRuntime) -> io::Result<Script> {
+        let mut text = Vec::new(rt.alloc());
+        rt.stdin().take(MOST as u64).read_to_end(&mut text)?;
+        let cut = text.len() >= MOST && rt.stdin().read(&mut [0u8; 1])? > 0;
+        Ok(Script { text, cut })
+    }
+
+    // The lines that are played: of a script that was cut not the piece that the cut left unended.
+    fn played(&self) -> &[u8] {
+        let text = self.text.as_slice();
+        if !self.cut {
+            return text;
         }
-        length += got;
+        match text.iter().rposition(|byte| *byte == b'\n') {
+            Some(end) => &text[..end],
+            None => &[],
+        }
     }
-    Ok(length)
-}
 
-// Whether more of standard input comes behind so many bytes that were read: fewer than are played end where it does,
-// and at a terminal that end would have to be typed twice.
-fn read_behind(input: &mut impl Read, length: usize) -> io::Result<bool> {
-    if length < MOST {
-        return Ok(false);
+    // Plays it and tells how it ends.
+    fn play(&self, rt: &(impl Print + AllocGlobal)) -> io::Result<()> {
+        println!(rt;
+            "# command cab machine number row before after stopped started running counters call sent untouched"
+        )?;
+        let mut shift = Shift::begun();
+        shift.play(rt, self.played())?;
+        if self.cut {
+            println!(rt;
+                "! the script has more than 65536 bytes: only the lines that end within them were played"
+            )?;
+        }
+        shift.tell_outcome(rt)
     }
-    let mut more = [0u8; 1];
-    let got = input.read(&mut more)?;
-    Ok(got > 0)
-}
-
-// Says that the script was too long; whether that could be written.
-fn say_cut(rt: &impl Print, cut: bool) -> bool {
-    if !cut {
-        return true;
-    }
-    rt.println(
-        "! the script has more than 65536 bytes: only the lines that end within them were played",
-    ).is_ok()
-}
-
-// Says the names of the fields; whether that could be written.
-fn say_fields(rt: &impl Print) -> bool {
-    rt.println(
-        "# command cab machine number row before after stopped started running counters call sent untouched",
-    ).is_ok()
-}
-
-// Plays the script and tells how it ends; whether all of that could be written.
-fn play(rt: &impl Print, script: &[u8], cut: bool) -> bool {
-    let mut shift = Shift::begun(say_fields(rt));
-    if shift.written {
-        shift = playing::play(rt, script, cut, shift);
-    }
-    let cabs = shift.cabs;
-    shift.written && say_cut(rt, cut) && outcome::tell_outcome(rt, &cabs)
-}
-
-// Says a line on standard error; where that fails there is nobody to tell.
-fn say(rt: &impl Eprint, line: &str) {
-    let _ = rt.eprintln(line);
-}
-
-// Plays the script from standard input, which is cut behind 65,536 bytes, and says where the answer could not be
-// written; a failed read ends it ahead of that.
-fn play_input(rt: &HostRuntime) -> io::Result<()> {
-    let mut script = [0u8; MOST];
-    let length = read_full(&mut rt.stdin(), &mut script)?;
-    let more = read_behind(&mut rt.stdin(), length)?;
-    if !play(rt, &script[..length], more) {
-        say(rt, "drill: the answer could not be written");
-    }
-    Ok(())
 }
 
 // Plays the script from standard input. Where it cannot be read to its end, or to where it is cut, nothing is played.
+// Where standard error fails there is nobody to tell.
 fn main(rt: HostRuntime) {
-    if play_input(&rt).is_err() {
-        say(&rt, "drill: standard input could not be read");
+    let Ok(script) = Script::read(&rt) else {
+        let _ = eprintln!(rt; "drill: standard input could not be read");
+        return;
+    };
+    if script.play(&rt).is_err() {
+        let _ = eprintln!(rt; "drill: the answer could not be written");
     }
 }

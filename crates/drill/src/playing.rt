@@ -1,150 +1,179 @@
 // A script, line by line, and what each command does.
-use crate::cabs::{BOTH, GROUP, LENGTH, PRIVATE, SETTINGS, Shift, answered, set_all, set_named};
-use crate::commands;
-use crate::commands::command_in;
-use crate::complaints::{CAB, NOTHING, complain};
-use crate::happenings::input_named;
-use crate::lines_heard::{play_chooses, play_hears};
-use crate::lists::take_names_of;
-use crate::records::{group_numbers, private_numbers};
-use crate::steps::take_step;
-use crate::words::{NOWHERE, find, next_word, part, place_in, word_at};
+use crate::cabs::{Cab, CabName, Shift};
+use crate::commands::{Command, Hearing, Line};
+use crate::complaints::{Complaint, Fault};
+use crate::machines::Machine;
+use crate::telling::{Step, Turn};
+use crate::words::Words;
+use call::{Action, Event, Input, Timer};
+use reader::Read;
+use std::alloc::{AllocError, Global};
+use std::io;
 
-// The numbers of the cabs with the private record of a cab cleared.
-fn clear_private(cabs: [u64; BOTH], cab: usize) -> [u64; BOTH] {
-    let cleared = private_numbers(private_record::states::PrivateRecord::cleared());
-    set_all(cabs, cab, PRIVATE, 16, cleared)
-}
+// What the bytes of a lent buffer are ahead of a step: no byte of a line.
+const UNTOUCHED: u8 = b'.';
 
-// The numbers of the cabs with the group record of a cab cleared.
-fn clear_group(cabs: [u64; BOTH], cab: usize) -> [u64; BOTH] {
-    let cleared = group_numbers(group_record::states::GroupRecord::cleared());
-    set_all(cabs, cab, GROUP, 13, cleared)
-}
-
-// Whether a command sets something by hand.
-fn sets_by_hand(asked: usize) -> bool {
-    match asked {
-        commands::SETTINGS | commands::BUFFER => true,
-        commands::PRIVATE_RECORD | commands::PRIVATE_CLEARED => true,
-        commands::GROUP_RECORD | commands::GROUP_CLEARED => true,
-        _ => false,
-    }
-}
-
-// The numbers of the cabs with what a command sets by hand, by the names that it gave.
-fn set_by_hand(cabs: [u64; BOTH], cab: usize, asked: usize, named: [u64; 16]) -> [u64; BOTH] {
-    match asked {
-        commands::PRIVATE_CLEARED => clear_private(cabs, cab),
-        commands::GROUP_CLEARED => clear_group(cabs, cab),
-        _ => set_named(cabs, cab, place_of(asked), named),
-    }
-}
-
-// Where a cab has what a command sets.
-fn place_of(asked: usize) -> usize {
-    match asked {
-        commands::SETTINGS => SETTINGS,
-        commands::BUFFER => LENGTH,
-        commands::PRIVATE_RECORD => PRIVATE,
-        _ => GROUP,
-    }
-}
-
-// Whether a command is about the private machine.
-fn is_private(asked: usize) -> bool {
-    (asked < commands::GROUP_START) | ((asked >= commands::TFP1) & (asked < commands::TFG2))
-}
-
-// Plays a command that takes names alone.
-fn play_named(
-    rt: &impl Print,
-    shift: Shift,
-    cab: usize,
-    command: usize,
-    asked: usize,
-    line: &[u8],
-    at: usize,
-) -> Shift {
-    let mut named = [0u64; 16];
-    let fault = take_names_of(asked, line, at, &mut named);
-    if fault.complaint != NOTHING {
-        return answered(shift, complain(rt, command, fault.complaint, fault.at));
-    }
-    if sets_by_hand(asked) {
-        let cabs = shift.cabs;
-        let sent = shift.sent;
-        return Shift {
-            cabs: set_by_hand(cabs, cab, asked, named),
-            sent: sent,
-            written: shift.written,
-        };
-    }
-    take_step(
-        rt,
-        shift,
-        cab,
-        command,
-        is_private(asked),
-        input_named(asked, &named),
-    )
-}
-
-// Plays the command of a cab from the words behind the cab's name.
-fn play_command(
-    rt: &impl Print,
-    shift: Shift,
-    cab: usize,
-    command: usize,
-    line: &[u8],
-    at: usize,
-) -> Shift {
-    let sent = shift.sent;
-    let read = command_in(line, at);
-    if read.complaint != NOTHING {
-        return answered(shift, complain(rt, command, read.complaint, read.at));
-    }
-    let asked = read.asked;
-    match asked {
-        commands::HEARS => play_hears(rt, shift, cab, command, line, read.at),
-        commands::CHOOSES => answered(shift, play_chooses(rt, &sent, cab, command, line, read.at)),
-        _ => play_named(rt, shift, cab, command, asked, line, read.at),
-    }
-}
-
-// Plays a line of the script, without its line end.
-fn play_line(rt: &impl Print, shift: Shift, command: usize, line: &[u8]) -> Shift {
-    let first = next_word(line, 0);
-    if first.from == first.to {
-        return shift;
-    }
-    let cab = place_in(b"a b", word_at(line, first));
-    if cab == NOWHERE {
-        return answered(shift, complain(rt, command, CAB, first.from));
-    }
-    play_command(rt, shift, cab, command, line, first.to)
-}
-
-// Plays every line of a script, as far as all can be written, but of a script that was cut not the piece that the cut
-// left unended.
-pub(crate) fn play(rt: &impl Print, script: &[u8], cut: bool, shift: Shift) -> Shift {
-    let mut played = shift;
-    let mut at = 0;
-    let mut command = 0;
-    while at < script.len() {
-        let end = find(script, at, b'\n');
-        command += 1;
-        if end >= script.len() {
-            if cut {
-                return played;
+impl Shift {
+    // Plays every line of a script.
+    pub(crate) fn play(
+        &mut self,
+        rt: &(impl Print + AllocGlobal),
+        script: &[u8],
+    ) -> io::Result<()> {
+        for (command, line) in (1..).zip(script.split(|byte| *byte == b'\n')) {
+            match self.read(line) {
+                Ok(Some((cab, asked))) => self.obey(rt, Turn { command, cab }, asked)?,
+                Ok(None) => {}
+                Err(fault) => println!(rt; "! line {command}, {fault}")?,
             }
-            return play_line(rt, played, command, part(script, at, end));
         }
-        played = play_line(rt, played, command, part(script, at, end));
-        if !played.written {
-            return played;
-        }
-        at = end + 1;
+        Ok(())
     }
-    played
+
+    // The cab that a line names, and what it asks for; nothing where the line has no words.
+    fn read<'a>(&self, line: &'a [u8]) -> Result<Option<(CabName, Command<'a>)>, Fault> {
+        let mut words = Words::of(line);
+        let Some(first) = words.next() else {
+            return Ok(None);
+        };
+        let cab = CabName::read(first.text).ok_or(first.fault(Complaint::Cab))?;
+        let command = Command::read(words, self, self.cab(cab))?;
+        Ok(Some((cab, command)))
+    }
+
+    // Does what a command asks for.
+    fn obey(
+        &mut self,
+        rt: &(impl Print + AllocGlobal),
+        turn: Turn,
+        command: Command,
+    ) -> io::Result<()> {
+        let cab = self.cab_mut(turn.cab);
+        match command {
+            Command::Settings(settings) => cab.settings = settings,
+            Command::Buffer(buffer) => cab.buffer = buffer,
+            Command::PrivateRecord(record) => cab.private = record,
+            Command::GroupRecord(record) => cab.group = record,
+            Command::Happens(input) => cab.take_steps(rt, turn, input)?,
+            Command::Hears(line, hearing) => self.hear(rt, turn, line, hearing)?,
+            Command::Chooses(first, second) => self.choose(rt, turn, first, second)?,
+        }
+        Ok(())
+    }
+
+    // The bytes of a line, with its line end or without it.
+    fn bytes_of(&self, alloc: Global, line: Line, ended: bool) -> Result<Vec<u8>, AllocError> {
+        let mut bytes = Vec::new(alloc);
+        match line {
+            Line::Digits(digits) => bytes.extend_from_slice(digits)?,
+            Line::SentLastBy(name) => {
+                if let Some(sent) = &self.cab(name).sent {
+                    bytes.extend_from_slice(sent.as_bytes())?;
+                }
+            }
+        }
+        if ended {
+            bytes.push(b'\n')?;
+        }
+        Ok(bytes)
+    }
+
+    // Has both machines of a cab take a step on a line, unless the reader refuses it.
+    fn hear(
+        &mut self,
+        rt: &(impl Print + AllocGlobal),
+        turn: Turn,
+        line: Line,
+        hearing: Hearing,
+    ) -> io::Result<()> {
+        let heard = self.bytes_of(rt.alloc(), line, hearing.ended)?;
+        let reading = reader::read_line(heard.as_slice());
+        match reading.read {
+            Read::Readable(message) => {
+                let input = Input {
+                    event: Event::Message(message),
+                    media: reading.media,
+                    verdicts: hearing.verdicts,
+                };
+                self.cab_mut(turn.cab).take_steps(rt, turn, input)
+            }
+            Read::Refused(number) => println!(rt; "{turn} reader {number} - - - - - - - - - -"),
+        }
+    }
+
+    // Has the chooser choose between two lines.
+    fn choose(
+        &self,
+        rt: &(impl Print + AllocGlobal),
+        turn: Turn,
+        first: Line,
+        second: Line,
+    ) -> io::Result<()> {
+        let one = self.bytes_of(rt.alloc(), first, true)?;
+        let other = self.bytes_of(rt.alloc(), second, true)?;
+        let number = chooser::choose_number(one.as_slice(), other.as_slice());
+        let better = chooser::choose(one.as_slice(), other.as_slice());
+        let call = unended(better).unwrap_or("-");
+        println!(rt; "{turn} chooser {number} - - - - - - - {call} - -")
+    }
+}
+
+impl Cab {
+    // Has the machine that an input is for take a step, and both on a message.
+    fn take_steps(
+        &mut self,
+        rt: &(impl Print + AllocGlobal),
+        turn: Turn,
+        input: Input,
+    ) -> io::Result<()> {
+        match input.event {
+            Event::Action(Action::Private(_)) | Event::Expiry(Timer::Private(_)) => {
+                self.take_step(rt, turn, Machine::Private, input)
+            }
+            Event::Action(Action::Group(_)) | Event::Expiry(Timer::Group(_)) => {
+                self.take_step(rt, turn, Machine::Group, input)
+            }
+            Event::Message(_) => {
+                self.take_step(rt, turn, Machine::Private, input)?;
+                self.take_step(rt, turn, Machine::Group, input)
+            }
+        }
+    }
+
+    // Has a machine take a step, tells it, and keeps what comes of it.
+    fn take_step(
+        &mut self,
+        rt: &(impl Print + AllocGlobal),
+        turn: Turn,
+        machine: Machine,
+        input: Input,
+    ) -> io::Result<()> {
+        let stored = self.record(machine);
+        let mut lent = vec![in rt.alloc(); UNTOUCHED; usize::from(self.buffer.length)]?;
+        let stepped = stored.step(self.settings, input, lent.as_mut_slice());
+        let sent = lent.get(..stepped.length).and_then(unended);
+        let untouched = lent
+            .iter()
+            .rev()
+            .take_while(|byte| **byte == UNTOUCHED)
+            .count();
+        let step = Step {
+            turn,
+            stored,
+            stepped,
+            sent,
+            untouched,
+        };
+        println!(rt; "{step}")?;
+        self.keep(stepped.next);
+        if let Some(line) = sent {
+            self.sent = Some(String::from_str(rt.alloc(), line)?);
+        }
+        Ok(())
+    }
+}
+
+// The digits of a line without its line end; none where it has no line end, as where there is no line.
+fn unended(line: &[u8]) -> Option<&str> {
+    str::from_utf8(line.strip_suffix(b"\n")?).ok()
 }

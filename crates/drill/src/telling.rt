@@ -1,199 +1,198 @@
-// The lines that tell steps and records.
-use crate::lists::{
-    CABS, GROUP_LIST, GROUP_STATES, MACHINES, PRIVATE_LIST, PRIVATE_STATES, either, put_word,
-};
-use crate::text::{Line, put, put_field, put_hexadecimal, put_nothing, put_number, put_text, say};
-use crate::words::part;
+// How steps, records and timers are told.
+use crate::cabs::CabName;
+use crate::machines::{Machine, Record, Stepped, Timers};
+use call::Counters;
+use group_record::states::GroupRecord;
+use private_record::states::PrivateRecord;
+use std::fmt;
 
-// What the bytes of a lent buffer are ahead of a step: no byte of a line.
-pub(crate) const UNTOUCHED: u8 = b'.';
-
-// The parts of a record's list behind the state: the timers.
-const TIMERS: usize = 0;
-
-// The counters, of which a group record has none.
-const COUNTERS: usize = 1;
-
-// The call.
-const CALL: usize = 2;
-
-// A step of the private or of the group machine: the number of its command, its cab, the place of the state ahead of
-// it, and what it told: the record and the timers as numbers in the order of the record's list.
+// Whose turn it is: the number of the command, and the cab that it names.
 #[derive(Clone, Copy)]
-pub(crate) struct Step {
+pub(crate) struct Turn {
     pub(crate) command: usize,
-    pub(crate) cab: usize,
-    pub(crate) private: bool,
-    pub(crate) before: u64,
-    pub(crate) number: u8,
-    pub(crate) row: u8,
-    pub(crate) next: [u64; 16],
-    pub(crate) stop: [u64; 16],
-    pub(crate) start: [u64; 16],
-    pub(crate) length: usize,
+    pub(crate) cab: CabName,
 }
 
-// The first four fields: the number of a command, its cab, by its place in the list of machines who answers, and the
-// number of the answer.
-pub(crate) fn beginning(command: usize, cab: usize, machine: usize, number: u8) -> Line {
-    let mut line = put_number(Line::empty(), command as u64);
-    line = put_word(line, b' ', CABS, cab);
-    line = put_word(line, b' ', MACHINES, machine);
-    put_number(put(line, b' '), number as u64)
-}
-
-// A row, as a field: the letter of its machine and its number; `-` for none.
-fn put_row(line: Line, private: bool, row: u8) -> Line {
-    if row == 0 {
-        return put_nothing(line);
-    }
-    put_number(put(put(line, b' '), letter(private)), row as u64)
-}
-
-// The letter of the rows of a machine.
-fn letter(private: bool) -> u8 {
-    if private { b'R' } else { b'G' }
-}
-
-// Where a part of a record's list begins.
-fn part_start(private: bool, asked: usize) -> usize {
-    match asked {
-        TIMERS => 1,
-        COUNTERS => either(private, 7, 4),
-        _ => either(private, 10, 4),
+// The first two fields of a line.
+impl fmt::Display for Turn {
+    fn fmt<W: fmt::Write>(&self, f: &mut fmt::Formatter<W>) -> fmt::Result {
+        let Turn { command, cab } = self;
+        write!(f, "{command} {cab}")
     }
 }
 
-// Where it ends.
-fn part_end(private: bool, asked: usize) -> usize {
-    match asked {
-        TIMERS => either(private, 7, 4),
-        COUNTERS => either(private, 10, 4),
-        _ => either(private, 16, 13),
-    }
-}
-
-// A number behind its name: the PCK-ID, at place 15, is hexadecimal.
-fn put_value(line: Line, place: usize, number: u64) -> Line {
-    let named = put(line, b'=');
-    if place == 15 {
-        return put_hexadecimal(named, number);
-    }
-    put_number(named, number)
-}
-
-// The name at a place of a record's list: of a timer alone, and else with its number.
-fn put_name(line: Line, ahead: u8, private: bool, asked: usize, place: usize, number: u64) -> Line {
-    let named = put_word(
-        line,
-        ahead,
-        either(private, PRIVATE_LIST, GROUP_LIST),
-        place,
-    );
-    if asked == TIMERS {
-        return named;
-    }
-    put_value(named, place, number)
-}
-
-// The same if it is asked for.
-fn put_asked(
-    line: Line,
-    ahead: u8,
-    private: bool,
-    asked: usize,
-    place: usize,
-    number: u64,
-    is_in: bool,
-) -> Line {
-    if is_in {
-        return put_name(line, ahead, private, asked, place, number);
-    }
-    line
-}
-
-// What stands ahead of the next name of a field: a blank up to the first.
-fn separator(ahead: u8, is_in: bool) -> u8 {
-    if is_in { b',' } else { ahead }
-}
-
-// A part of a record's list, as a field: the timers whose numbers are 1, and else every name with its number.
-fn put_part(line: Line, private: bool, asked: usize, numbers: [u64; 16]) -> Line {
-    let from = part_start(private, asked);
-    let to = part_end(private, asked);
-    let mut longer = line;
-    let mut ahead = b' ';
-    for place in 0..16 {
-        let number = numbers[place];
-        let is_in = (place >= from) & (place < to) & ((asked != TIMERS) | (number == 1));
-        longer = put_asked(longer, ahead, private, asked, place, number, is_in);
-        ahead = separator(ahead, is_in);
-    }
-    if ahead == b' ' {
-        return put_nothing(longer);
-    }
-    longer
-}
-
-// A state, by its place in the list of its machine, as a field.
-fn put_state(line: Line, private: bool, state: u64) -> Line {
-    put_word(
-        line,
-        b' ',
-        either(private, PRIVATE_STATES, GROUP_STATES),
-        place_of(state),
-    )
-}
-
-// A number as a place of a list.
-fn place_of(number: u64) -> usize {
-    (number % 16) as usize
-}
-
-// What runs, the counters and the call, as fields.
-fn put_rest(line: Line, private: bool, numbers: [u64; 16]) -> Line {
-    let mut longer = put_part(line, private, TIMERS, numbers);
-    longer = put_part(longer, private, COUNTERS, numbers);
-    put_part(longer, private, CALL, numbers)
-}
-
-// How many bytes at the end of a lent buffer are as they were.
-fn untouched(lent: &[u8]) -> usize {
-    for count in 0..lent.len() {
-        if lent[lent.len() - 1 - count] != UNTOUCHED {
-            return count;
+// The machine as a script has it.
+impl fmt::Display for Machine {
+    fn fmt<W: fmt::Write>(&self, f: &mut fmt::Formatter<W>) -> fmt::Result {
+        match self {
+            Machine::Private => write!(f, "private"),
+            Machine::Group => write!(f, "group"),
         }
     }
-    lent.len()
 }
 
-// The length of a line without its line end.
-fn digits(length: usize) -> usize {
-    if length > 0 { length - 1 } else { 0 }
+impl Record {
+    // The name of its state.
+    pub(crate) fn state(self) -> &'static str {
+        match self {
+            Record::Private(record) => match record.state {
+                private_record::states::State::P0 => "P0",
+                private_record::states::State::P1 => "P1",
+                private_record::states::State::P2 => "P2",
+                private_record::states::State::P3 => "P3",
+                private_record::states::State::P4 => "P4",
+                private_record::states::State::P5 => "P5",
+            },
+            Record::Group(record) => match record.state {
+                group_record::states::State::S1 => "S1",
+                group_record::states::State::S3 => "S3",
+                group_record::states::State::S4 => "S4",
+                group_record::states::State::S5 => "S5",
+            },
+        }
+    }
 }
 
-// Tells a step on a lent buffer; whether that could be written.
-pub(crate) fn tell_step(rt: &impl Print, step: Step, lent: &[u8]) -> bool {
-    let private = step.private;
-    let next = step.next;
-    let stop = step.stop;
-    let start = step.start;
-    let mut line = beginning(step.command, step.cab, either(private, 0, 1), step.number);
-    line = put_row(line, private, step.row);
-    line = put_state(line, private, step.before);
-    line = put_state(line, private, next[0]);
-    line = put_part(line, private, TIMERS, stop);
-    line = put_part(line, private, TIMERS, start);
-    line = put_rest(line, private, next);
-    line = put_field(line, part(lent, 0, digits(step.length)));
-    say(rt, put_number(put(line, b' '), untouched(lent) as u64))
+// The timers that run, the counters and the call.
+impl fmt::Display for Record {
+    fn fmt<W: fmt::Write>(&self, f: &mut fmt::Formatter<W>) -> fmt::Result {
+        let running = self.running();
+        write!(f, "{running} ")?;
+        match self {
+            Record::Private(record) => write_private(f, record),
+            Record::Group(record) => write_group(f, record),
+        }
+    }
 }
 
-// Tells a record of a cab at the end; whether that could be written.
-pub(crate) fn tell_record(rt: &impl Print, cab: usize, private: bool, numbers: [u64; 16]) -> bool {
-    let mut line = put_text(Line::empty(), b"end");
-    line = put_word(line, b' ', CABS, cab);
-    line = put_word(line, b' ', MACHINES, either(private, 0, 1));
-    line = put_state(line, private, numbers[0]);
-    say(rt, put_rest(line, private, numbers))
+// The counters and the call of a private record.
+fn write_private<W: fmt::Write>(f: &mut fmt::Formatter<W>, record: &PrivateRecord) -> fmt::Result {
+    let Counters { cfp1, cfp3, cfp4 } = record.counters;
+    write!(f, "CFP1={cfp1},CFP3={cfp3},CFP4={cfp4}")?;
+    let call = record.call;
+    write!(f, " identifier={}", call.parties.identifier)?;
+    write!(f, ",caller={}", call.parties.caller)?;
+    write!(f, ",callee={}", call.parties.callee)?;
+    write!(f, ",commencement={}", call.commencement)?;
+    write!(f, ",media={}", call.media.number)?;
+    write!(f, ",pck-id=0x{:08x}", call.pck_id)
+}
+
+// The counters, of which there are none, and the call of a group record.
+fn write_group<W: fmt::Write>(f: &mut fmt::Formatter<W>, record: &GroupRecord) -> fmt::Result {
+    let call = record.call;
+    write!(f, "- group={}", call.group)?;
+    write!(f, ",identifier={}", call.identifier)?;
+    write!(f, ",type={}", call.call_type)?;
+    write!(f, ",refresh={}", call.refresh)?;
+    write!(f, ",media={}", record.media.number)?;
+    write!(f, ",originator={}", call.originator)?;
+    write!(f, ",start={}", call.start)?;
+    write!(f, ",last-change={}", call.last_change)?;
+    write!(f, ",last-changer={}", call.last_changer)
+}
+
+// The timers of the set.
+impl fmt::Display for Timers {
+    fn fmt<W: fmt::Write>(&self, f: &mut fmt::Formatter<W>) -> fmt::Result {
+        match self {
+            Timers::Private(timers) => write_timers(
+                f,
+                &[
+                    (timers.tfp1, "TFP1"),
+                    (timers.tfp2, "TFP2"),
+                    (timers.tfp3, "TFP3"),
+                    (timers.tfp4, "TFP4"),
+                    (timers.tfp5, "TFP5"),
+                    (timers.tfp7, "TFP7"),
+                ],
+            ),
+            Timers::Group(timers) => write_timers(
+                f,
+                &[
+                    (timers.tfg2, "TFG2"),
+                    (timers.tfg4, "TFG4"),
+                    (timers.tfg6, "TFG6"),
+                ],
+            ),
+        }
+    }
+}
+
+// The names of the timers that are in a set; `-` where none is.
+fn write_timers<W: fmt::Write>(
+    f: &mut fmt::Formatter<W>,
+    timers: &[(bool, &'static str)],
+) -> fmt::Result {
+    let mut ahead = "";
+    for (is_in, name) in timers {
+        if *is_in {
+            write!(f, "{ahead}{name}")?;
+            ahead = ",";
+        }
+    }
+    if ahead.is_empty() {
+        write!(f, "-")?;
+    }
+    Ok(())
+}
+
+// A step as it is told: whose turn it was, the record ahead of it, what it told, the line that it sent, and how many
+// bytes at the end of the lent buffer are as they were.
+#[derive(Clone, Copy)]
+pub(crate) struct Step<'a> {
+    pub(crate) turn: Turn,
+    pub(crate) stored: Record,
+    pub(crate) stepped: Stepped,
+    pub(crate) sent: Option<&'a str>,
+    pub(crate) untouched: usize,
+}
+
+impl Step<'_> {
+    // The row that it met.
+    fn row(&self) -> Row {
+        Row {
+            machine: self.stored.machine(),
+            number: self.stepped.row,
+        }
+    }
+}
+
+// A line of the answer.
+impl fmt::Display for Step<'_> {
+    fn fmt<W: fmt::Write>(&self, f: &mut fmt::Formatter<W>) -> fmt::Result {
+        let Stepped {
+            number,
+            stop,
+            start,
+            next,
+            ..
+        } = self.stepped;
+        let (turn, machine, row) = (self.turn, self.stored.machine(), self.row());
+        write!(f, "{turn} {machine} {number} {row}")?;
+        let (before, after) = (self.stored.state(), next.state());
+        write!(f, " {before} {after} {stop} {start} {next}")?;
+        let sent = self.sent.unwrap_or("-");
+        let untouched = self.untouched;
+        write!(f, " {sent} {untouched}")
+    }
+}
+
+// A row of a machine; none has number 0.
+#[derive(Clone, Copy)]
+struct Row {
+    machine: Machine,
+    number: u8,
+}
+
+// The letter of the machine and the number; `-` where there is none.
+impl fmt::Display for Row {
+    fn fmt<W: fmt::Write>(&self, f: &mut fmt::Formatter<W>) -> fmt::Result {
+        let number = self.number;
+        match self.machine {
+            _ if number == 0 => write!(f, "-"),
+            Machine::Private => write!(f, "R{number}"),
+            Machine::Group => write!(f, "G{number}"),
+        }
+    }
 }

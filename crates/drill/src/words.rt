@@ -1,135 +1,89 @@
-// The words of a text: where they stand, and which they are.
-ghost use Rattle.std.specs.Prelude.{◌≤◌};
+// The words of a line, one behind the other, each with the place where it begins.
+ghost use Rattle.std.specs.Prelude.{◌-◌, ◌≤◌, length};
+ghost use Rattle.std.specs.Iterator.{at_most};
 
-// Where a word stands: its first byte, and the byte behind its last. A word that is missing has no bytes.
+use crate::complaints::{Complaint, Fault};
+
+// A word, and where in its line it begins.
 #[derive(Clone, Copy)]
-pub(crate) struct Place {
-    pub(crate) from: usize,
-    pub(crate) to: usize,
+pub(crate) struct Word<'a> {
+    pub(crate) text: &'a [u8],
+    pub(crate) at: usize,
 }
 
-// What a word has for its place in a list that lacks it.
-pub(crate) const NOWHERE: usize = 32;
-
-// The part of a text from one place up to another; no bytes where the text has no such part.
-pub(crate) fn part<'a>(text: &'a [u8], from: usize, to: usize) -> &'a [u8] {
-    if from <= to {
-        if to <= text.len() {
-            return &text[from..to];
+impl<'a> Word<'a> {
+    // What is wrong with this word.
+    pub(crate) fn fault(self, complaint: Complaint) -> Fault {
+        Fault {
+            complaint,
+            at: self.at,
         }
     }
-    &text[0..0]
 }
 
-// The text behind a place.
-pub(crate) fn behind<'a>(text: &'a [u8], from: usize) -> &'a [u8] {
-    part(text, from, text.len())
+// The words of a line from a place on, up to a comment or the end of the line.
+#[derive(Clone, Copy)]
+pub(crate) struct Words<'a> {
+    line: &'a [u8],
+    at: usize,
+    ghost within: { at ≤ length line.now },
+}
+
+impl<'a> Words<'a> {
+    // All words of a line.
+    pub(crate) fn of(line: &'a [u8]) -> Words<'a> {
+        Words { line, at: 0 }
+    }
+
+    // The next word; the complaint, at the place where it is missing, if there is none.
+    pub(crate) fn expect(&mut self, complaint: Complaint) -> Result<Word<'a>, Fault> {
+        match self.next() {
+            Some(word) => Ok(word),
+            None => Err(Fault {
+                complaint,
+                at: self.at,
+            }),
+        }
+    }
+}
+
+// Word by word. Behind the last it stands where a comment begins, or at the end of the line.
+impl<'a> Iterator for Words<'a> {
+    type Item = Word<'a>;
+
+    ghost remaining = { λ s. at_most (length s.line.now - s.at) };
+
+    fn next(&mut self) -> Option<Word<'a>> {
+        let line = self.line;
+        let from = find(line, self.at, |byte| !is_blank(byte));
+        self.at = from;
+        if from < line.len() && line[from] != b'#' {
+            let to = find(line, from + 1, is_blank);
+            self.at = to;
+            return Some(Word {
+                text: &line[from..to],
+                at: from,
+            });
+        }
+        None
+    }
 }
 
 // Whether a byte stands between words.
 fn is_blank(byte: u8) -> bool {
-    (byte == b' ') | (byte == b'\t') | (byte == b',') | (byte == b'\r')
+    matches!(byte, b' ' | b'\t' | b',' | b'\r')
 }
 
-// The first place, from this one on, where no byte stands between words, or, as asked, where one does; else the end.
-fn run_end(text: &[u8], from: usize, blank: bool) -> usize
-    ensures { from ≤ result }
+// The first place, from this one on, whose byte is so; else the end of the text.
+fn find<F: Fn(u8) -> bool>(text: &[u8], from: usize, is_so: F) -> usize
+    requires from_le_length { from ≤ length text.now }
+    requires callable { F.IsAlwaysCallable is_so }
+    ensures from_le_result { from ≤ result }
+    ensures result_le_length { result ≤ length text.now }
 {
-    let mut at = from;
-    while at < text.len() {
-        if is_blank(text[at]) != blank {
-            return at;
-        }
-        at += 1;
-    }
-    at
-}
-
-// The first word from this place on; a missing one where a comment or the end of the text comes first.
-pub(crate) fn next_word(text: &[u8], at: usize) -> Place
-    ensures at_le_from { at ≤ result.from }
-    ensures from_le_to { result.from ≤ result.to }
-{
-    let from = run_end(text, at, true);
-    if from < text.len() {
-        if text[from] != b'#' {
-            return Place {
-                from: from,
-                to: run_end(text, from, false),
-            };
-        }
-    }
-    Place {
-        from: from,
-        to: from,
-    }
-}
-
-// The bytes of the word at a place.
-pub(crate) fn word_at<'a>(text: &'a [u8], place: Place) -> &'a [u8] {
-    part(text, place.from, place.to)
-}
-
-// Whether two texts are the same.
-pub(crate) fn same(one: &[u8], other: &[u8]) -> bool {
-    one == other
-}
-
-// The place of a word in a list of fewer than 32 words, from 0 on; NOWHERE if it is missing there.
-pub(crate) fn place_in(list: &[u8], word: &[u8]) -> usize
-    ensures { result ≤ 32 }
-{
-    let mut at = 0;
-    for count in 0..NOWHERE {
-        let next = next_word(list, at);
-        if next.from == next.to {
-            return NOWHERE;
-        }
-        if same(word_at(list, next), word) {
-            return count;
-        }
-        at = next.to;
-    }
-    NOWHERE
-}
-
-// The word at a place of a list, from 0 on.
-pub(crate) fn nth_word(list: &[u8], place: usize) -> Place {
-    let mut word = next_word(list, 0);
-    for _ in 0..place {
-        word = next_word(list, word.to);
-    }
-    word
-}
-
-// The first place, from this one on, where a byte stands; else the end of the text.
-pub(crate) fn find(text: &[u8], from: usize, byte: u8) -> usize
-    ensures { from ≤ result }
-{
-    let mut place = from;
-    while place < text.len() {
-        if text[place] == byte {
-            return place;
-        }
-        place += 1;
-    }
-    place
-}
-
-// The line of a text with this number, from 0 on, without its line end.
-pub(crate) fn nth_line<'a>(text: &'a [u8], number: usize) -> &'a [u8] {
-    let from = line_start(text, number);
-    part(text, from, find(text, from, b'\n'))
-}
-
-// Where the line of a text with this number begins.
-fn line_start(text: &[u8], number: usize) -> usize {
-    let mut at = 0;
-    for _ in 0..number {
-        let end = find(text, at, b'\n');
-        if end < text.len() {
-            at = end + 1;
-        }
-    }
-    at
+    let rest = &text[from..];
+    from + rest
+        .iter()
+        .position(|byte| is_so(*byte))
+        .unwrap_or(rest.len())
 }

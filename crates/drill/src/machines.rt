@@ -1,5 +1,6 @@
 // The two machines: the record that a cab keeps for each, and a step of either.
 use call::{Input, Settings};
+use frame::Refusal;
 use group_record::states::GroupRecord;
 use private_record::states::PrivateRecord;
 
@@ -24,11 +25,17 @@ pub(crate) enum Timers {
     Group(group_record::states::Timers),
 }
 
-// What a step of either machine told.
+// A row that was carried out, by the machine whose it is and its number there.
+#[derive(Clone, Copy)]
+pub(crate) enum Row {
+    Private(u8),
+    Group(u8),
+}
+
+// What a step of either machine did.
 #[derive(Clone, Copy)]
 pub(crate) struct Stepped {
-    pub(crate) number: u8,
-    pub(crate) row: u8,
+    pub(crate) row: Option<Row>,
     pub(crate) next: Record,
     pub(crate) stop: Timers,
     pub(crate) start: Timers,
@@ -52,30 +59,48 @@ impl Record {
         }
     }
 
+    // What a step does that is refused: nothing.
+    pub(crate) fn kept(self) -> Stepped {
+        let none = match self {
+            Record::Private(_) => Timers::Private(private_record::states::Timers::NONE),
+            Record::Group(_) => Timers::Group(group_record::states::Timers::NONE),
+        };
+        Stepped {
+            row: None,
+            next: self,
+            stop: none,
+            start: none,
+            length: 0,
+        }
+    }
+
     // A step of its machine on a lent buffer.
-    pub(crate) fn step(self, settings: Settings, input: Input, lent: &mut [u8]) -> Stepped {
+    pub(crate) fn step(
+        self,
+        settings: Settings,
+        input: Input,
+        lent: &mut [u8],
+    ) -> Result<Stepped, Refusal> {
         match self {
             Record::Private(record) => {
-                let stepped = private_call::step(settings, record, input, lent);
-                Stepped {
-                    number: stepped.number,
-                    row: stepped.row,
+                let stepped = private_call::step(settings, record, input, lent)?;
+                Ok(Stepped {
+                    row: stepped.row.map(|row| Row::Private(row as u8)),
                     next: Record::Private(stepped.next),
                     stop: Timers::Private(stepped.stop),
                     start: Timers::Private(stepped.start),
                     length: stepped.length,
-                }
+                })
             }
             Record::Group(record) => {
-                let stepped = group_call::step(settings, record, input, lent);
-                Stepped {
-                    number: stepped.number,
-                    row: stepped.row,
+                let stepped = group_call::step(settings, record, input, lent)?;
+                Ok(Stepped {
+                    row: stepped.row.map(|row| Row::Group(row as u8)),
                     next: Record::Group(stepped.next),
                     stop: Timers::Group(stepped.stop),
                     start: Timers::Group(stepped.start),
                     length: stepped.length,
-                }
+                })
             }
         }
     }

@@ -6,7 +6,7 @@ use crate::machines::Machine;
 use crate::telling::{Step, Turn};
 use crate::words::Words;
 use call::{Action, Event, Input, Timer};
-use reader::Read;
+use frame::Refusal;
 use std::alloc::{AllocError, Global};
 use std::io;
 
@@ -87,17 +87,19 @@ impl Shift {
         hearing: Hearing,
     ) -> io::Result<()> {
         let heard = self.bytes_of(rt.alloc(), line, hearing.ended)?;
-        let reading = reader::read_line(heard.as_slice());
-        match reading.read {
-            Read::Readable(message) => {
+        match reader::read_line(heard.as_slice()) {
+            Ok(frame) => {
                 let input = Input {
-                    event: Event::Message(message),
-                    media: reading.media,
+                    event: Event::Message(frame.message),
+                    media: frame.media,
                     verdicts: hearing.verdicts,
                 };
                 self.cab_mut(turn.cab).take_steps(rt, turn, input)
             }
-            Read::Refused(number) => println!(rt; "{turn} reader {number} - - - - - - - - - -"),
+            Err(refusal) => {
+                let number = refusal as u8;
+                println!(rt; "{turn} reader {number} - - - - - - - - - -")
+            }
         }
     }
 
@@ -111,7 +113,8 @@ impl Shift {
     ) -> io::Result<()> {
         let one = self.bytes_of(rt.alloc(), first, true)?;
         let other = self.bytes_of(rt.alloc(), second, true)?;
-        let number = chooser::choose_number(one.as_slice(), other.as_slice());
+        let asked = chooser::choose_number(one.as_slice(), other.as_slice());
+        let number = Refusal::number_of(&asked);
         let better = chooser::choose(one.as_slice(), other.as_slice());
         let call = unended(better).unwrap_or("-");
         println!(rt; "{turn} chooser {number} - - - - - - - {call} - -")
@@ -150,7 +153,8 @@ impl Cab {
     ) -> io::Result<()> {
         let stored = self.record(machine);
         let mut lent = vec![in rt.alloc(); UNTOUCHED; usize::from(self.buffer.length)]?;
-        let stepped = stored.step(self.settings, input, lent.as_mut_slice());
+        let outcome = stored.step(self.settings, input, lent.as_mut_slice());
+        let stepped = outcome.unwrap_or(stored.kept());
         let sent = lent.get(..stepped.length).and_then(unended);
         let untouched = lent
             .iter()
@@ -160,7 +164,7 @@ impl Cab {
         let step = Step {
             turn,
             stored,
-            stepped,
+            outcome,
             sent,
             untouched,
         };

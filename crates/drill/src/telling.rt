@@ -1,7 +1,8 @@
 // How steps, records and timers are told.
 use crate::cabs::CabName;
-use crate::machines::{Machine, Record, Stepped, Timers};
+use crate::machines::{Machine, Record, Row, Stepped, Timers};
 use call::Counters;
+use frame::Refusal;
 use group_record::states::GroupRecord;
 use private_record::states::PrivateRecord;
 use std::fmt;
@@ -137,39 +138,34 @@ fn write_timers<W: fmt::Write>(
     Ok(())
 }
 
-// A step as it is told: whose turn it was, the record ahead of it, what it told, the line that it sent, and how many
+// A step as it is told: whose turn it was, the record ahead of it, what came of it, the line that it sent, and how many
 // bytes at the end of the lent buffer are as they were.
 #[derive(Clone, Copy)]
 pub(crate) struct Step<'a> {
     pub(crate) turn: Turn,
     pub(crate) stored: Record,
-    pub(crate) stepped: Stepped,
+    pub(crate) outcome: Result<Stepped, Refusal>,
     pub(crate) sent: Option<&'a str>,
     pub(crate) untouched: usize,
-}
-
-impl Step<'_> {
-    // The row that it met.
-    fn row(&self) -> Row {
-        Row {
-            machine: self.stored.machine(),
-            number: self.stepped.row,
-        }
-    }
 }
 
 // A line of the answer.
 impl fmt::Display for Step<'_> {
     fn fmt<W: fmt::Write>(&self, f: &mut fmt::Formatter<W>) -> fmt::Result {
+        let (turn, machine) = (self.turn, self.stored.machine());
+        let number = Refusal::number_of(&self.outcome);
+        write!(f, "{turn} {machine} {number} ")?;
         let Stepped {
-            number,
+            row,
             stop,
             start,
             next,
             ..
-        } = self.stepped;
-        let (turn, machine, row) = (self.turn, self.stored.machine(), self.row());
-        write!(f, "{turn} {machine} {number} {row}")?;
+        } = self.outcome.unwrap_or(self.stored.kept());
+        match row {
+            Some(row) => write!(f, "{row}")?,
+            None => write!(f, "-")?,
+        }
         let (before, after) = (self.stored.state(), next.state());
         write!(f, " {before} {after} {stop} {start} {next}")?;
         let sent = self.sent.unwrap_or("-");
@@ -178,21 +174,12 @@ impl fmt::Display for Step<'_> {
     }
 }
 
-// A row of a machine; none has number 0.
-#[derive(Clone, Copy)]
-struct Row {
-    machine: Machine,
-    number: u8,
-}
-
-// The letter of the machine and the number; `-` where there is none.
+// The letter of the machine, and the number.
 impl fmt::Display for Row {
     fn fmt<W: fmt::Write>(&self, f: &mut fmt::Formatter<W>) -> fmt::Result {
-        let number = self.number;
-        match self.machine {
-            _ if number == 0 => write!(f, "-"),
-            Machine::Private => write!(f, "R{number}"),
-            Machine::Group => write!(f, "G{number}"),
+        match self {
+            Row::Private(number) => write!(f, "R{number}"),
+            Row::Group(number) => write!(f, "G{number}"),
         }
     }
 }

@@ -24,8 +24,8 @@ fn read_log(rt: &HostRuntime) -> io::Result<Vec<u8>> {
 // Writes the answer to a log.
 fn write_answer(rt: &impl Print, log: &[u8]) -> io::Result<()> {
     let mut out = [0u8; ROOM];
-    let answered = log_answer::answer_log(log, &mut out);
-    rt.write_all(&out[..answered.length])
+    let length = log_answer::answer_log(log, &mut out).unwrap_or(0);
+    rt.write_all(&out[..length])
 }
 
 // Answers standard input. Where it cannot be read to its end, or to where it is cut, nothing is answered. Where

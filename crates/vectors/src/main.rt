@@ -8,7 +8,6 @@ use call::{
 use frame::{Media, Message};
 use group_record::states::GroupRecord;
 use private_record::states::PrivateRecord;
-use reader::Read;
 
 // What user 9 sends to accept the call, with media 6.
 const ACCEPT: [u8; 31] = *b"031234000000070000000900000006\n";
@@ -73,22 +72,24 @@ fn show(rt: &HostRuntime, out: &[u8], told: usize) {
 // One step of the private call machine: shows the line that it sends, and gives the next record.
 fn private_step(rt: &HostRuntime, stored: PrivateRecord, taken: Input) -> PrivateRecord {
     let mut out = [0u8; Message::LONGEST];
-    let stepped = private_call::step(CREW, stored, taken, &mut out);
-    show(rt, &out, stepped.length);
-    stepped.next
+    let (next, length) = match private_call::step(CREW, stored, taken, &mut out) {
+        Ok(stepped) => (stepped.next, stepped.length),
+        Err(_) => (stored, 0),
+    };
+    show(rt, &out, length);
+    next
 }
 
 // The private call: user 7 starts it, hears the accept of user 9, and ends it.
 fn play_private_call(rt: &HostRuntime) {
     let start = Event::Action(Action::Private(PrivateAction::Start(PRIVATE_START)));
     let called = private_step(rt, PrivateRecord::cleared(), input(start, MEDIA));
-    let reading = reader::read_line(&ACCEPT);
-    let Read::Readable(message) = reading.read else {
+    let Ok(heard) = reader::read_line(&ACCEPT) else {
         let _ = eprintln!(rt; "vectors: the accept was not read");
         return;
     };
-    let accept = Event::Message(message);
-    let accepted = private_step(rt, called, input(accept, reading.media));
+    let accept = Event::Message(heard.message);
+    let accepted = private_step(rt, called, input(accept, heard.media));
     let end = Event::Action(Action::Private(PrivateAction::End));
     private_step(rt, accepted, input(end, Media::NONE));
 }
@@ -97,8 +98,16 @@ fn play_private_call(rt: &HostRuntime) {
 fn play_group_call(rt: &HostRuntime) {
     let start = Event::Action(Action::Group(GroupAction::Start(GROUP_START)));
     let mut out = [0u8; Message::LONGEST];
-    let announced = group_call::step(CREW, GroupRecord::cleared(), input(start, MEDIA), &mut out);
-    show(rt, &out, announced.length);
+    let length = match group_call::step(
+        CREW,
+        GroupRecord::cleared(),
+        input(start, MEDIA),
+        &mut out,
+    ) {
+        Ok(announced) => announced.length,
+        Err(_) => 0,
+    };
+    show(rt, &out, length);
 }
 
 // The private call, then the group call.

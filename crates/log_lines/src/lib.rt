@@ -13,5 +13,5 @@ pub fn first_line_length(part: &[u8]) -> usize
     ensures value { result ≡ length (first_line part.now) }
     ensures cut_place { CutPlace result part.now }
 {
-    memchr(0x0a, part).map_or(part.len(), |at| at + 1)
+    memchr(b'\n', part).map_or(part.len(), |at| at + 1)
 }

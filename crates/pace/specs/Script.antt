@@ -1,5 +1,5 @@
 -- Who plays a script, and what each of its bytes stands for. Assumes nothing.
-use Rattle.std.specs.Prelude.{ℕ, List, [], ◌∷◌, true, false, cond, ◌||◌, eqb}
+use Rattle.std.specs.Prelude.{ℕ, List, [], ◌∷◌, Bool, true, false, not, cond, ◌||◌, eqb}
 use Rattle.frame.specs.declared.Acceptance.{Acceptance}
 use Rattle.frame.specs.declared.GroupCall.{GroupCall}
 use Rattle.frame.specs.declared.Media.{Media}
@@ -133,6 +133,10 @@ abbrev pub group_input : ℕ → Input
 group_input byte = input_with (group_event byte) (media_by byte)
 
 -- ---- what is counted
+
+-- a step met a row: its number is not 0
+abbrev pub meets_row : ℕ → Bool
+meets_row row = not (eqb row 0)
 
 -- 1 for a step that met a row, 0 for any other
 abbrev pub row_met : ℕ → ℕ

@@ -87,12 +87,12 @@ fn announcement(identifier: u16, group: u32, call_type: u8, start: u32) -> Event
 {
     Event::Message(Message::Announcement(
         GroupCall {
-            identifier: identifier,
-            group: group,
-            call_type: call_type,
+            identifier,
+            group,
+            call_type,
             refresh: 30,
             originator: 9,
-            start: start,
+            start,
             last_change: start,
             last_changer: 9,
         },
@@ -143,10 +143,9 @@ fn group_event(byte: u8) -> Event
 fn media_by(byte: u8) -> Media
     ensures { result ≡ media_by byte }
 {
-    if (byte == 2) | (byte == 3) {
-        return Media { number: 6 };
+    Media {
+        number: if matches!(byte, 2 | 3) { 6 } else { 5 },
     }
-    Media { number: 5 }
 }
 
 // An event with its media, where media can be set up and the signature is good.
@@ -154,8 +153,8 @@ fn input_with(event: Event, media: Media) -> Input
     ensures { result ≡ input_with event media }
 {
     Input {
-        event: event,
-        media: media,
+        event,
+        media,
         verdicts: Verdicts {
             media: true,
             signature: true,

@@ -3,21 +3,29 @@
 #![tactic(auto)]
 
 mod happenings;
+mod players;
 
-ghost use Rattle.std.specs.Prelude.{◌≡◌, ◌≤◌};
-ghost use Rattle.pace.specs.Script.{row_met};
+ghost use Rattle.std.specs.Prelude.{◌≡◌};
 ghost use Rattle.pace.specs.Played.{private_play, group_play, rows_met, buffer_after};
 
-use crate::happenings::{CREW, group_input, private_input};
+use crate::players::Player;
+use group_record::states::GroupRecord;
+use private_record::states::PrivateRecord;
 
-// 1 for a step that met a row, 0 for any other.
-fn row_met(row: u8) -> usize
-    ensures { (result ≡ row_met row) × (result ≤ 1) }
+// Plays a script from what the machine begins with, and tells how many steps meet a row; each step writes its line at
+// the front of the same lent buffer.
+fn play<P: Player>(script: &[u8], out: &mut [u8]) -> usize
+    ensures value { result ≡ rows_met P.play out.old script.now }
+    ensures out_after { out.new ≡ buffer_after P.play out.old script.now }
 {
-    if row == 0 {
-        return 0;
+    let mut stored = P::first();
+    let mut met = 0;
+    for byte in script {
+        let (meets, next) = stored.step(*byte, out);
+        met += meets as usize;
+        stored = next;
     }
-    1
+    met
 }
 
 // How many steps of a script meet a row of the private machine, from its cleared record on; each step writes its line
@@ -26,16 +34,7 @@ pub fn pace_private_steps(script: &[u8], out: &mut [u8]) -> usize
     ensures value { result ≡ rows_met private_play out.old script.now }
     ensures out_after { out.new ≡ buffer_after private_play out.old script.now }
 {
-    let mut stored = private_record::states::PrivateRecord::cleared();
-    let mut met = 0;
-    let mut at = 0;
-    while at < script.len() {
-        let stepped = private_call::step(CREW, stored, private_input(script[at]), out);
-        met += row_met(stepped.row);
-        at += 1;
-        stored = stepped.next;
-    }
-    met
+    play::<PrivateRecord>(script, out)
 }
 
 // The same of the group machine.
@@ -43,14 +42,5 @@ pub fn pace_group_steps(script: &[u8], out: &mut [u8]) -> usize
     ensures value { result ≡ rows_met group_play out.old script.now }
     ensures out_after { out.new ≡ buffer_after group_play out.old script.now }
 {
-    let mut stored = group_record::states::GroupRecord::cleared();
-    let mut met = 0;
-    let mut at = 0;
-    while at < script.len() {
-        let stepped = group_call::step(CREW, stored, group_input(script[at]), out);
-        met += row_met(stepped.row);
-        at += 1;
-        stored = stepped.next;
-    }
-    met
+    play::<GroupRecord>(script, out)
 }

@@ -4,6 +4,9 @@ use mathlib.Core.Path.{◌≡◌, sym, ap, ◌∙◌}
 use mathlib.Core.List.{List}
 use mathlib.Core.Bool.{Bool, true, false, cond}
 use lib.Dec.{eqb}
+use borrow.Author.Tests.{eq-eqb}
+use Rattle.std.specs.Prelude.{Some, None}
+use Rattle.std.proofs.lemmas.Option.{none-some}
 use Rattle.writer.specs.Lent.{lent_after}
 use Rattle.call.specs.declared.Settings.{Settings}
 use Rattle.call.specs.declared.Input.{Input}
@@ -13,9 +16,12 @@ use Rattle.stepping.proofs.Answers as answers
 use Rattle.private_record.specs.Formed.{is_well_formed}
 use Rattle.private_record.specs.declared.states.PrivateRecord.{PrivateRecord}
 use Rattle.private_rows.specs.Rows.{row_number, row_of}
+use Rattle.private_rows.specs.declared.Row.{Row}
+use Rattle.private_rows.proofs.Meets.{same_row}
 use Rattle.private_call.specs.Step.{identifier_taken, done_of, step_line, refused_of, moved_of, answer_met, step_of, step_buffer}
-use Rattle.private_call.specs.declared.Stepped.{Stepped}
+use Rattle.stepping.specs.Answer.{Answer}
 use Rattle.private_call.proofs.Steps.{number-in-parts, buffer_lent, answer-of-row}
+use Rattle.private_record.specs.declared.states.Timers.{Timers}
 
 module _ (s : Settings) (p : PrivateRecord) (i : Input) (out : List ℕ) where
   -- the number before a row is looked for
@@ -35,11 +41,11 @@ module _ (s : Settings) (p : PrivateRecord) (i : Input) (out : List ℕ) where
   left = send_buffer (done_of s p i).sent (done_of s p i).next.call.media out
 
   -- an answer and a buffer are those of the step
-  abbrev pub Answers : Stepped → List ℕ → Type 0
+  abbrev pub Answers : Answer PrivateRecord Timers → List ℕ → Type 0
   Answers r after = (r ≡ step_of s p i out) × (after ≡ step_buffer s p i out)
 
   -- what the number, the row's answer and its line give is the step's
-  as_step : {r : Stepped} {after : List ℕ} → answers.Answers s (is_well_formed s p) i taken (done_of s p i).sent (done_of s p i).next.call.media out (λ n. refused_of n p) (answer_met s p i) r after → Answers r after
+  as_step : {r : Answer PrivateRecord Timers} {after : List ℕ} → answers.Answers s (is_well_formed s p) i taken (done_of s p i).sent (done_of s p i).next.call.media out (λ n. refused_of n p) (answer_met s p i) r after → Answers r after
   unfolding step_of
   as_step x =
       let n = sym (number-in-parts s p i out) in (
@@ -63,8 +69,9 @@ module _ (s : Settings) (p : PrivateRecord) (i : Input) (out : List ℕ) where
       as_step (answers.refused-sending s (is_well_formed s p) i taken (done_of s p i).sent (done_of s p i).next.call.media out (λ n. refused_of n p) (answer_met s p i) e t f)
 
   -- carried out, with the length that the writer tells
-  pub carried-out : before ≡ 0 → (row_number (row_of s p i) ≡ 0 → ⊥) → taken ≡ false → writers ≡ 0
+  pub carried-out : {row : Row} → before ≡ 0 → row_of s p i ≡ Some row → taken ≡ false → writers ≡ 0
       → Answers (moved_of (row_of s p i) (done_of s p i) (send_told (done_of s p i).sent (done_of s p i).next.call.media out).length) left
-  carried-out e n t w =
+  carried-out {row} e m t w =
       let r = as_step (answers.carried-out s (is_well_formed s p) i taken (done_of s p i).sent (done_of s p i).next.call.media out (λ n. refused_of n p) (answer_met s p i) e t w) in
+      let n : row_number (row_of s p i) ≡ 0 → ⊥ = λ z. none-some row (sym (same_row (row_of s p i) None (eq-eqb (row_number (row_of s p i)) 0 z)) ∙ m) in
       (ap (moved_of (row_of s p i) (done_of s p i)) (answers.told-length (done_of s p i).sent (done_of s p i).next.call.media out w) ∙ sym (answer-of-row s p i n) ∙ r.0, r.1)

@@ -7,12 +7,15 @@ use lib.Dec.{leb, ltb}
 use borrow.Author.Tests.{le-leb, ltb-true, ltb-false, eqb-true}
 use Rattle.frame.specs.Range.{within}
 use Rattle.frame.proofs.Laws.{and_split, within-split}
+use Rattle.call.specs.Timing.{stopped_of, running_after}
 use Rattle.call.specs.Settings.{limit_good, limits_good}
 use Rattle.call.specs.declared.Counters.{Counters}
 use Rattle.call.proofs.Laws.{both}
+use Rattle.private_record.specs.Phases.{has, set_of}
+use Rattle.private_record.specs.declared.states.Timers.{Timers}
 use Rattle.private_record.specs.Formed.{counter_good, counters_good}
-use Rattle.private_call.specs.Carried.{one_more, counter_after, counters_after, stopped_of, running_after}
-use Rattle.private_call.specs.declared.timers.TimerSets.{TimerSets}
+use Rattle.private_call.specs.Carried.{one_more, counter_after, counters_after}
+use Rattle.call.specs.declared.timers.TimerSets.{TimerSets}
 
 -- between its ends
 inside : (low n high : ℕ) → low ≤ n → n ≤ high → within low n high ≡ true
@@ -47,13 +50,13 @@ pub least : (limit : ℕ) → limit_good limit ≡ true → 1 ≤ limit
 least limit e = (within-split 1 limit 16 e).0
 
 -- so the three of them stay in their ranges
-pub counters-keep : (x : TimerSets) (again : Bool) (limits counters : Counters) → limits_good limits ≡ true → counters_good x.was_running limits counters ≡ true
-    → counters_good (running_after x) limits (counters_after (running_after x) x.started again limits counters) ≡ true
+pub counters-keep : (x : TimerSets Timers) (again : Bool) (limits counters : Counters) → limits_good limits ≡ true → counters_good x.was_running limits counters ≡ true
+    → counters_good (running_after has set_of x) limits (counters_after (running_after has set_of x) x.started again limits counters) ≡ true
 unfolding stopped_of running_after counters_after
 counters-keep x again limits counters l g =
     let was = x.was_running in
     let out = x.ran_out in
-    let stop = stopped_of x in
+    let stop = stopped_of has set_of x in
     let started = x.started in
     let l1 = and_split (limit_good limits.cfp1) _ l in
     let l3 = and_split (limit_good limits.cfp3) (limit_good limits.cfp4) l1.1 in

@@ -3,14 +3,15 @@ use Prim.Native.Nat.{ℕ}
 use mathlib.Core.Path.{◌≡◌, refl, sym, ap, ◌∙◌, subst}
 use mathlib.Core.Bool.{Bool, true, false, not}
 use borrow.Author.Tests.{eqb-true, eq-eqb}
+use Rattle.std.specs.Prelude.{None}
 use Rattle.frame.proofs.Laws.{and_split}
+use Rattle.call.specs.Timing.{stopped_of, running_after, timer_facts}
 use Rattle.call.specs.declared.Counters.{Counters}
 use Rattle.call.specs.declared.Settings.{Settings}
 use Rattle.call.specs.declared.PrivateTimer.{PrivateTimer}
 use Rattle.call.specs.declared.Input.{Input}
-use Rattle.call.specs.declared.Send.{Send}
 use Rattle.call.proofs.Timing.{stops-none, runs-on-one}
-use Rattle.private_record.specs.Phases.{state_number, no_timer, running_of, phase_of}
+use Rattle.private_record.specs.Phases.{state_number, has, no_timer, running_of, phase_of}
 use Rattle.private_record.specs.Formed.{counter_good, counters_good}
 use Rattle.private_record.specs.declared.states.State.{State}
 use Rattle.private_record.specs.declared.states.Timers.{Timers}
@@ -19,17 +20,16 @@ use Rattle.private_record.specs.declared.states.PrivateRecord.{PrivateRecord}
 use Rattle.private_record.proofs.WellFormed.{same-timers, Fit}
 use Rattle.private_rows.specs.Causes.{cause_of, facts_of}
 use Rattle.private_rows.specs.Rows.{row_of}
-use Rattle.private_rows.specs.declared.Row.TheVariants.{Discard}
 use Rattle.private_rows.specs.declared.causes.Cause.{Cause}
 use Rattle.private_call.specs.Effects.{effect_of}
-use Rattle.private_call.specs.Carried.{ran_out_by, changes, started_of, stopped_of, running_after, counter_after, counters_after, started_by, timer_facts, timers_by, stopped_by, running_by, carry_out}
-use Rattle.private_call.specs.declared.carrying.Carried.{Carried}
+use Rattle.private_call.specs.Carried.{ran_out_by, changes, started_of, counter_after, counters_after, started_by, timers_by, stopped_by, running_by, carry_out}
+use Rattle.stepping.specs.declared.Carried.{Carried}
 use Rattle.private_call.proofs.Brought.{out_of, ran-out-of}
 use Rattle.private_call.proofs.Settling.{less, Sound, rows-sound}
 
 -- nothing carried out
-abbrev pub nothing : PrivateRecord → Carried
-nothing p = record { next = p; stop = no_timer; start = no_timer; sent = Send.Nothing }
+abbrev pub nothing : PrivateRecord → Carried PrivateRecord Timers
+nothing p = record { next = p; stop = no_timer; start = no_timer; sent = None }
 
 -- a counter in its range whose timer is not started is the same afterwards
 counter-same : (runs again : Bool) (limit n : ℕ) → counter_good runs limit n ≡ true
@@ -55,15 +55,15 @@ unchanged : (state : State) → changes state state ≡ false
 unchanged state = ap not (eq-eqb (state_number state) (state_number state) refl)
 
 -- a discard starts nothing
-starts-nothing : (state : State) → started_by state (effect_of Discard state) ≡ no_timer
+starts-nothing : (state : State) → started_by state (effect_of None state) ≡ no_timer
 unfolding started_of
 starts-nothing state = rw (unchanged state)
 
 -- and stops nothing
-stops-nothing : (state : State) (was out : Timers) → stopped_by state was out (effect_of Discard state) ≡ no_timer
+stops-nothing : (state : State) (was out : Timers) → stopped_by state was out (effect_of None state) ≡ no_timer
 unfolding stopped_of
 stops-nothing state was out =
-    let x = timer_facts (timers_by state was out (effect_of Discard state)) in
+    let x = timer_facts has (timers_by state was out (effect_of None state)) in
     let same = unchanged state in
     λ i. record {
       tfp1 = stops-none (x PrivateTimer.Tfp1) refl same i;
@@ -75,10 +75,10 @@ stops-nothing state was out =
     }
 
 -- so what runs afterwards is what ran and did not run out
-runs_on : (state : State) (was out : Timers) → running_by state was out (effect_of Discard state) ≡ less was out
+runs_on : (state : State) (was out : Timers) → running_by state was out (effect_of None state) ≡ less was out
 unfolding running_after
 runs_on state was out =
-    let x = timer_facts (timers_by state was out (effect_of Discard state)) in
+    let x = timer_facts has (timers_by state was out (effect_of None state)) in
     let same = unchanged state in
     let none = starts-nothing state in
     λ i. record {
@@ -91,11 +91,11 @@ runs_on state was out =
     }
 
 -- in the phase of a fit record, that is what ran
-quiet_at : {f : Phase} {c : Cause} {was out : Timers} → was ≡ running_of f → out ≡ out_of c → Sound f c Discard → less was out ≡ was
+quiet_at : {f : Phase} {c : Cause} {was out : Timers} → was ≡ running_of f → out ≡ out_of c → Sound f c None → less was out ≡ was
 quiet_at {f} {c} a b x = rw (a, b) (same-timers (less (running_of f) (out_of c)) (running_of f) x.discard)
 
 -- nothing is carried out
-pub carried-nothing : (s : Settings) (p : PrivateRecord) (i : Input) → Fit s p → row_of s p i ≡ Discard → carry_out s p i (row_of s p i) ≡ nothing p
+pub carried-nothing : (s : Settings) (p : PrivateRecord) (i : Input) → Fit s p → row_of s p i ≡ None → carry_out s p i (row_of s p i) ≡ nothing p
 unfolding carry_out
 carried-nothing s p i f e =
     let out = ran_out_by i.event in
@@ -109,5 +109,5 @@ carried-nothing s p i f e =
       next = record { state = p.state; running = runs j; counters = counts j; call = p.call };
       stop = stops j;
       start = starts j;
-      sent = Send.Nothing;
+      sent = None;
     })

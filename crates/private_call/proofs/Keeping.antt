@@ -2,6 +2,7 @@
 use mathlib.Core.Path.{◌≡◌, refl}
 use mathlib.Core.Bool.{Bool, true, false, cond, false≢true}
 use borrow.Author.Tests.{not-true}
+use Rattle.std.specs.Prelude.{Option, Some, None}
 use Rattle.frame.specs.Digits.{four}
 use Rattle.frame.specs.Range.{never_zero, reason_good}
 use Rattle.frame.specs.Frame.{parties_good, in_range}
@@ -53,19 +54,19 @@ reason-good s reason = go (restricted s) reason
     go false Reason.Failed = refl
 
 -- what is said of a call in range is in range, and so is what is said of a setup request that is brought
-said-good : (s : Settings) (c : Cause) (to : State) (hold : Hold) (say : Say) (call : PrivateCall) (other : Parties)
+said-good : (s : Settings) (c : Cause) (to : State) (hold : Hold) (say : Option Say) (call : PrivateCall) (other : Parties)
     → may_say c to hold say ≡ true → (holds_one to hold ≡ true → fields_good call ≡ true) → (brings_call c ≡ true → parties_good other ≡ true)
     → SentGood (sent_of s say call other) call.media
 unfolding in_range
-said-good s c to hold Say.Nothing call other m k b = tt
-said-good s c to hold Say.SetupRequest call other m k b = k m
-said-good s c to hold Say.Ringing call other m k b = (ranged call (k m)).parties
-said-good s c to hold Say.Accept call other m k b = let r = ranged call (k m) in both _ _ r.its_media r.parties
-said-good s c to hold Say.Release call other m k b = (ranged call (k m)).parties
-said-good s c to hold Say.ReleaseAck call other m k b = (ranged call (k m)).parties
-said-good s c to hold Say.AcceptAck call other m k b = (ranged call (k m)).parties
-said-good s c to hold (Say.Reject reason) call other m k b = both (parties_good call.parties) _ (ranged call (k m)).parties (reason-good s reason)
-said-good s c to hold Say.RejectOther call other m k b = both (parties_good other) _ (b m) (reason-good s Reason.Busy)
+said-good s c to hold None call other m k b = tt
+said-good s c to hold (Some Say.SetupRequest) call other m k b = k m
+said-good s c to hold (Some Say.Ringing) call other m k b = (ranged call (k m)).parties
+said-good s c to hold (Some Say.Accept) call other m k b = let r = ranged call (k m) in both _ _ r.its_media r.parties
+said-good s c to hold (Some Say.Release) call other m k b = (ranged call (k m)).parties
+said-good s c to hold (Some Say.ReleaseAck) call other m k b = (ranged call (k m)).parties
+said-good s c to hold (Some Say.AcceptAck) call other m k b = (ranged call (k m)).parties
+said-good s c to hold (Some (Say.Reject reason)) call other m k b = both (parties_good call.parties) _ (ranged call (k m)).parties (reason-good s reason)
+said-good s c to hold (Some Say.RejectOther) call other m k b = both (parties_good other) _ (b m) (reason-good s Reason.Busy)
 
 -- the call held is in range where it is one
 held_one : (s : Settings) (state to : State) (hold : Hold) (c : Cause) (call : PrivateCall) (r : Request) (media : Media) → may_hold c state to hold ≡ true
@@ -78,17 +79,17 @@ held_one s state to Hold.Clear c call r media m b g h = absurd (false≢true h)
 -- ---- the row that is met, carried out
 
 -- what is sound of a phase is so of a record in that phase
-timers-at : {f : Phase} {c : Cause} (row : Row) {state : State} {was out : Timers} → state ≡ state_of f → was ≡ running_of f → out ≡ out_of c
+timers-at : {f : Phase} {c : Cause} (row : Option Row) {state : State} {was out : Timers} → state ≡ state_of f → was ≡ running_of f → out ≡ out_of c
     → Sound f c row → running_good (effect_of row state).to (running_by state was out (effect_of row state)) ≡ true
 timers-at row a b d x = rw (a, b, d) x.timers
 
 -- its call
-call_at : {f : Phase} {c : Cause} (row : Row) {state : State} → state ≡ state_of f → Sound f c row
+call_at : {f : Phase} {c : Cause} (row : Option Row) {state : State} → state ≡ state_of f → Sound f c row
     → may_hold c state (effect_of row state).to (effect_of row state).hold ≡ true
 call_at row a x = rw a x.call
 
 -- its message
-message-at : {f : Phase} {c : Cause} (row : Row) {state : State} → state ≡ state_of f → Sound f c row
+message-at : {f : Phase} {c : Cause} (row : Option Row) {state : State} → state ≡ state_of f → Sound f c row
     → may_say c (effect_of row state).to (effect_of row state).hold (effect_of row state).say ≡ true
 message-at row a x = rw a x.message
 

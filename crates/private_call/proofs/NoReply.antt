@@ -6,8 +6,10 @@ use mathlib.Core.Bool.{true}
 use native.Mathlib.Nat.{le_of_suc-le-suc, not-suc-le-zero}
 use native.Mathlib.Omega.{arith}
 use lib.ListN.{length, replicate}
+use Rattle.std.specs.Prelude.{Option, Some}
 use Rattle.frame.specs.declared.Media.{Media}
 use Rattle.frame.proofs.Laws.{and_split}
+use Rattle.call.specs.Timing.{running_after}
 use Rattle.call.specs.Settings.{limit_good, settings_good}
 use Rattle.call.specs.declared.Settings.{Settings}
 use Rattle.call.specs.declared.Verdicts.{Verdicts}
@@ -22,7 +24,7 @@ use Rattle.private_record.specs.declared.states.PrivateRecord.{PrivateRecord}
 use Rattle.private_record.proofs.WellFormed.{fit}
 use Rattle.private_rows.specs.Rows.{row_number}
 use Rattle.private_rows.specs.declared.Row.{Row}
-use Rattle.private_call.specs.Carried.{started_of, running_after, counters_after, carry_out}
+use Rattle.private_call.specs.Carried.{started_of, counters_after, carry_out}
 use Rattle.private_call.specs.Step.{step_line, step_of}
 use Rattle.private_call.specs.Running.{expiry, run_private, sent_private}
 use Rattle.private_call.specs.NoReply.{Counter, cfp1, cfp3, cfp4, count_in, timer_of, phase_where, line_repeated, Begins, by-R1, by-R8, by-R9, by-R20, by-R23, expiries, Roomy, at_most}
@@ -59,7 +61,7 @@ one-counter k s p (x ∷ xs) (suc r) g w here e room =
 -- ---- from the first sending on
 
 -- the rows that begin start the timer, set the counter to 1 and send the message
-begins : {k : Counter} {row : Row} → Begins k row → (s : Settings) (p : PrivateRecord) (i : Input) → let d = carry_out s p i row in
+begins : {k : Counter} {row : Row} → Begins k row → (s : Settings) (p : PrivateRecord) (i : Input) → let d = carry_out s p i (Some row) in
     (has d.next.running (timer_of k) ≡ true) × (count_in k d.next.counters ≡ 1)
     × (line_sent d.sent d.next.call.media ≡ line_repeated k d.next.call)
 unfolding carry_out started_of running_after counters_after
@@ -70,7 +72,7 @@ begins by-R20 s p i = (refl, refl, refl)
 begins by-R23 s p i = (refl, refl, refl)
 
 -- no row that begins is 0
-begins-row : {k : Counter} {row : Row} → Begins k row → row_number row ≡ 0 → ⊥
+begins-row : {k : Counter} {row : Row} → Begins k row → row_number (Some row) ≡ 0 → ⊥
 begins-row by-R1 e = omega (arith, e)
 begins-row by-R8 e = omega (arith, e)
 begins-row by-R9 e = omega (arith, e)
@@ -98,19 +100,19 @@ at-most-second (suc m) (suc n) h = ap suc (at-most-second m n (le_of_suc-le-suc 
 -- a step that sends the message for the first time, and then as many expiries of its timer as the limit or more, with room for each line:
 -- the message was sent as often as the limit says, each time the same line, and the state is P1
 pub no-reply : {k : Counter} {row : Row} → Begins k row → (s : Settings) (p : PrivateRecord) (i : Input) (out : List ℕ)
-    (xs : List (Media × Verdicts × List ℕ)) → (step_of s p i out).row ≡ row_number row → Roomy (length (step_line s p i)) xs → count_in k s.limits ≤ length xs
+    (xs : List (Media × Verdicts × List ℕ)) → (step_of s p i out).row ≡ row_number (Some row) → Roomy (length (step_line s p i)) xs → count_in k s.limits ≤ length xs
     → (sent_private s p ((i, out) ∷ expiries (timer_of k) xs) ≡ replicate (count_in k s.limits) (step_line s p i))
     × ((run_private s p ((i, out) ∷ expiries (timer_of k) xs)).state ≡ State.P1)
 no-reply {k} {row} b s p i out xs e room enough =
-    let m = row-met s p i out row (begins-row b) e in
+    let m = row-met s p i out (Some row) (begins-row b) e in
     let t = (tests-passed s p i (step-passed s p i out m.0).0).0 in
     let next = (step_of s p i out).next in
     let w = keeps-well-formed s p i out t.settings t.formed in
-    let done = next-done s p i out m.0 ∙ ap (λ (r : Row). (carry_out s p i r).next) m.1 in
+    let done = next-done s p i out m.0 ∙ ap (λ (r : Option Row). (carry_out s p i r).next) m.1 in
     let first = begins b s p i in
     let told = line-done s p i out m.0 in
     let line : step_line s p i ≡ line_repeated k next.call =
-    ap (λ (r : Row). line_sent (carry_out s p i r).sent (carry_out s p i r).next.call.media) m.1 ∙ first.2 ∙ ap (λ (q : PrivateRecord). line_repeated k q.call) (sym done) in
+    ap (λ (r : Option Row). line_sent (carry_out s p i r).sent (carry_out s p i r).next.call.media) m.1 ∙ first.2 ∙ ap (λ (q : PrivateRecord). line_repeated k q.call) (sym done) in
     let runs = ap (λ (q : PrivateRecord). has q.running (timer_of k)) done ∙ first.0 in
     let phase = counted-phase k (phase_of next) (ap (λ (x : Timers). has x (timer_of k)) (sym (fit s next w).running) ∙ runs) in
     let value = ap (λ (q : PrivateRecord). count_in k q.counters) done ∙ first.1 in

@@ -8,15 +8,17 @@ use lib.ListN.{length, drop}
 use lib.Seq.{take-append_seam}
 use lib.Dec.{ltb, eqb}
 use borrow.Author.Tests.{lt-ltb, le-ltb, ne_eqb}
+use Rattle.std.specs.Prelude.{Option, Some, None}
 use Rattle.frame.specs.declared.Media.{Media}
 use Rattle.frame.proofs.Frames.{length-line}
 use Rattle.writer.specs.Lent.{at_front}
+use Rattle.call.specs.Timing.{stopped_of, running_after}
 use Rattle.call.specs.Settings.{settings_good}
 use Rattle.call.specs.declared.Counters.{Counters}
 use Rattle.call.specs.declared.Settings.{Settings}
 use Rattle.call.specs.declared.Verdicts.{Verdicts}
 use Rattle.call.specs.declared.Input.{Input}
-use Rattle.call.specs.declared.Send.{Send}
+use Rattle.frame.specs.declared.Message.{Message}
 use Rattle.stepping.specs.Sending.{line_sent, send_number}
 use Rattle.private_record.specs.Phases.{has, state_of, running_of, count_of, phase_in, phase_of}
 use Rattle.private_record.specs.Formed.{is_well_formed}
@@ -31,27 +33,27 @@ use Rattle.private_rows.specs.declared.Row.{Row}
 use Rattle.private_rows.specs.declared.Row.TheVariants.{R2, R3, R10, R11, R16, R17}
 use Rattle.private_rows.specs.declared.causes.Facts.{Facts}
 use Rattle.private_call.specs.Effects.{effect_of}
-use Rattle.private_call.specs.Carried.{private_timer_out, started_of, stopped_of, running_after, counters_after, one_more, started_by, running_by, carry_out}
+use Rattle.private_call.specs.Carried.{private_timer_out, started_of, counters_after, one_more, started_by, running_by, carry_out}
 use Rattle.private_call.specs.Step.{number_before_sending, step_of, step_buffer}
 use Rattle.private_call.specs.Running.{expiry, run_private, sent_private}
 use Rattle.private_call.specs.NoReply.{Counter, cfp1, cfp3, cfp4, count_in, timer_of, phase_where, repeated, line_repeated, expiries}
-use Rattle.private_call.specs.declared.Stepped.{Stepped}
+use Rattle.stepping.specs.Answer.{Answer}
 use Rattle.private_call.proofs.MarkedSteps.{carries, next-done, line-done, row_done, expiry-taken, expiry-discarded}
 use Rattle.private_call.proofs.NumberTable.{step-goes}
 
 -- ---- the two rows of a counter
 
 -- under its limit
-abbrev pub again : Counter → Row
-again cfp1 = R2
-again cfp3 = R10
-again cfp4 = R16
+abbrev pub again : Counter → Option Row
+again cfp1 = Some R2
+again cfp3 = Some R10
+again cfp4 = Some R16
 
 -- at its limit
-abbrev pub over : Counter → Row
-over cfp1 = R3
-over cfp3 = R11
-over cfp4 = R17
+abbrev pub over : Counter → Option Row
+over cfp1 = Some R3
+over cfp3 = Some R11
+over cfp4 = Some R17
 
 -- the expiry of its timer meets the one or the other
 counter-row : (k : Counter) (b : Bool) (x : Facts) → x.under ≡ b → row_in (phase_where k) (private_timer_cause (timer_of k)) x ≡ cond b (again k) (over k)
@@ -122,7 +124,7 @@ line-bytes k s p e = let h = length-line (repeated k p.call) p.call.media in ome
 -- ---- at the limit
 
 -- nothing is sent, and P1 is entered
-over-quiet : (k : Counter) (s : Settings) (p : PrivateRecord) (i : Input) → ((carry_out s p i (over k)).sent ≡ Send.Nothing)
+over-quiet : (k : Counter) (s : Settings) (p : PrivateRecord) (i : Input) → ((carry_out s p i (over k)).sent ≡ None)
     × ((carry_out s p i (over k)).next.state ≡ State.P1)
 unfolding carry_out
 over-quiet cfp1 s p i = (refl, refl)
@@ -160,9 +162,9 @@ ignoring k s p (x ∷ xs) g w e =
     let phase : phase_of p ≡ Phase.P1 = ap (λ (state : State). phase_in state p.running) e in
     let quiet = ap (λ (t : Timers). has t (timer_of k)) ((fit s p w).running ∙ ap running_of phase) ∙ quiet-ignoring k in
     let d = expiry-discarded s p (timer_of k) x.0 x.1 x.2 g w quiet in
-    let next : (step_of s p i x.2).next ≡ p = ap (λ (r : Stepped). r.next) d.0 in
+    let next : (step_of s p i x.2).next ≡ p = ap (λ (r : Answer PrivateRecord Timers). r.next) d.0 in
     let rest = ignoring k s p xs g w e in (
-      step-silent s p i x.2 (expiries (timer_of k) xs) (ap (λ (r : Stepped). r.length) d.0) ∙ ap (λ (q : PrivateRecord). sent_private s q (expiries (timer_of k) xs)) next ∙ rest.0,
+      step-silent s p i x.2 (expiries (timer_of k) xs) (ap (λ (r : Answer PrivateRecord Timers). r.length) d.0) ∙ ap (λ (q : PrivateRecord). sent_private s q (expiries (timer_of k) xs)) next ∙ rest.0,
       ap (λ (q : PrivateRecord). run_private s q (expiries (timer_of k) xs)) next ∙ rest.1,
     )
 
@@ -183,7 +185,7 @@ module _ (k : Counter) (s : Settings) (p : PrivateRecord) (media : Media) (v : V
 
   -- it is not refused before it sends
   goes : (b : Bool) → ltb (count_in k p.counters) (count_in k s.limits) ≡ b → number_before_sending s p out_of ≡ 0
-  goes b e = expiry-taken s p (timer_of k) media v g w (ap (λ (row : Row). eqb (row_number row) 1) (row_by b e) ∙ not_first k b)
+  goes b e = expiry-taken s p (timer_of k) media v g w (ap (λ (row : Option Row). eqb (row_number row) 1) (row_by b e) ∙ not_first k b)
 
   -- under the limit: the line, the phase, one more; R2, R10 or R16
   pub expires-again : (out : List ℕ) → count_in k p.counters < count_in k s.limits → length (line_repeated k p.call) ≤ length out
@@ -195,10 +197,10 @@ module _ (k : Counter) (s : Settings) (p : PrivateRecord) (media : Media) (v : V
       let e = goes true (lt-ltb _ _ under) in
       let r = row_by true (lt-ltb _ _ under) in
       let same = again-same k s p out_of in
-      let line = ap (λ (row : Row). line_sent (carry_out s p out_of row).sent (carry_out s p out_of row).next.call.media) r ∙ same.2 in
+      let line = ap (λ (row : Option Row). line_sent (carry_out s p out_of row).sent (carry_out s p out_of row).next.call.media) r ∙ same.2 in
       let n = step-goes s p out_of out e (omega (arith, ap length line, room)) in
       let told = line-done s p out_of out n in
-      let done = next-done s p out_of out n ∙ ap (λ (row : Row). (carry_out s p out_of row).next) r in
+      let done = next-done s p out_of out n ∙ ap (λ (row : Option Row). (carry_out s p out_of row).next) r in
       let f = fit s p w in
       let state = f.state ∙ ap state_of here in
       let running = again-timers k state (f.running ∙ ap running_of here) in (
@@ -217,8 +219,8 @@ module _ (k : Counter) (s : Settings) (p : PrivateRecord) (media : Media) (v : V
       let e = goes false (le-ltb _ _ full) in
       let r = row_by false (le-ltb _ _ full) in
       let last = over-quiet k s p out_of in
-      let done = carries s p out_of out (over k) e r (ap (λ (x : Send). send_number x (carry_out s p out_of (over k)).next.call.media out) last.0) in (
-        ap (λ (x : Stepped). x.length) done ∙ ap (λ (x : Send). length (line_sent x (carry_out s p out_of (over k)).next.call.media)) last.0,
-        ap (λ (x : Stepped). x.next.state) done ∙ last.1,
-        ap (λ (x : Stepped). x.row) done,
+      let done = carries s p out_of out (over k) e r (ap (λ (x : Option Message). send_number x (carry_out s p out_of (over k)).next.call.media out) last.0) in (
+        ap (λ (x : Answer PrivateRecord Timers). x.length) done ∙ ap (λ (x : Option Message). length (line_sent x (carry_out s p out_of (over k)).next.call.media)) last.0,
+        ap (λ (x : Answer PrivateRecord Timers). x.next.state) done ∙ last.1,
+        ap (λ (x : Answer PrivateRecord Timers). x.row) done,
       )

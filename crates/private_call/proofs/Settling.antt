@@ -2,7 +2,9 @@
 use mathlib.Core.Path.{◌≡◌, refl}
 use mathlib.Core.Bool.{Bool, true, false, not, ◌&&◌, ◌||◌}
 use lib.Dec.{eqb}
+use Rattle.std.specs.Prelude.{Option, Some, None}
 use Rattle.frame.proofs.Laws.{and_split}
+use Rattle.call.specs.Timing.{stopped_of, running_after}
 use Rattle.call.proofs.Laws.{both_bools}
 use Rattle.private_record.specs.Phases.{state_number, has, set_of, same_timers, state_of, running_of}
 use Rattle.private_record.specs.Formed.{running_good, role_good}
@@ -16,7 +18,7 @@ use Rattle.private_rows.specs.declared.causes.Cause.{Cause}
 use Rattle.private_rows.specs.declared.causes.Facts.{Facts}
 use Rattle.private_rows.proofs.Meets.{each_row}
 use Rattle.private_call.specs.Effects.{effect_of}
-use Rattle.private_call.specs.Carried.{started_of, stopped_of, running_after, running_by}
+use Rattle.private_call.specs.Carried.{started_of, running_by}
 use Rattle.private_call.specs.declared.effects.Hold.{Hold}
 use Rattle.private_call.specs.declared.effects.Say.{Say}
 use Rattle.private_call.proofs.Brought.{out_of, brings_call, brings_media}
@@ -24,7 +26,7 @@ use Rattle.private_call.proofs.Brought.{out_of, brings_call, brings_media}
 -- ---- the timers
 
 -- the timers that run afterwards are those of the table
-abbrev pub settles : Phase → Cause → Row → Bool
+abbrev pub settles : Phase → Cause → Option Row → Bool
 settles f c row =
     running_good (effect_of row (state_of f)).to (running_by (state_of f) (running_of f) (out_of c) (effect_of row (state_of f)))
 
@@ -50,7 +52,7 @@ may_hold c state to Hold.Media = brings_media c && (not (start_stop state) && ma
 may_hold c state to Hold.Clear = start_stop to
 
 -- by the row
-abbrev pub holds : Phase → Cause → Row → Bool
+abbrev pub holds : Phase → Cause → Option Row → Bool
 holds f c row = may_hold c (state_of f) (effect_of row (state_of f)).to (effect_of row (state_of f)).hold
 
 -- ---- the message
@@ -63,19 +65,19 @@ holds_one to Hold.Media = not (start_stop to)
 holds_one to Hold.Clear = false
 
 -- what a row says may be said: of a call held, or of a setup request that is brought
-abbrev pub may_say : Cause → State → Hold → Say → Bool
-may_say c to hold Say.Nothing = true
-may_say c to hold Say.SetupRequest = holds_one to hold
-may_say c to hold Say.Ringing = holds_one to hold
-may_say c to hold Say.Accept = holds_one to hold
-may_say c to hold Say.Release = holds_one to hold
-may_say c to hold Say.ReleaseAck = holds_one to hold
-may_say c to hold Say.AcceptAck = holds_one to hold
-may_say c to hold (Say.Reject reason) = holds_one to hold
-may_say c to hold Say.RejectOther = brings_call c
+abbrev pub may_say : Cause → State → Hold → Option Say → Bool
+may_say c to hold None = true
+may_say c to hold (Some Say.SetupRequest) = holds_one to hold
+may_say c to hold (Some Say.Ringing) = holds_one to hold
+may_say c to hold (Some Say.Accept) = holds_one to hold
+may_say c to hold (Some Say.Release) = holds_one to hold
+may_say c to hold (Some Say.ReleaseAck) = holds_one to hold
+may_say c to hold (Some Say.AcceptAck) = holds_one to hold
+may_say c to hold (Some (Say.Reject reason)) = holds_one to hold
+may_say c to hold (Some Say.RejectOther) = brings_call c
 
 -- by the row
-abbrev pub says : Phase → Cause → Row → Bool
+abbrev pub says : Phase → Cause → Option Row → Bool
 says f c row = may_say c (effect_of row (state_of f)).to (effect_of row (state_of f)).hold (effect_of row (state_of f)).say
 
 -- ---- a discard
@@ -85,17 +87,17 @@ abbrev pub less : Timers → Timers → Timers
 less was out = set_of (λ t. has was t && not (has out t))
 
 -- where no row is met no running timer ran out
-abbrev pub quiet : Phase → Cause → Row → Bool
+abbrev pub quiet : Phase → Cause → Option Row → Bool
 quiet f c row = not (eqb (row_number row) 0) || same_timers (less (running_of f) (out_of c)) (running_of f)
 
 -- ---- the test
 
 -- all four
-abbrev sound : Phase → Cause → Row → Bool
+abbrev sound : Phase → Cause → Option Row → Bool
 sound f c row = settles f c row && (holds f c row && (says f c row && quiet f c row))
 
 -- what is so of every row that is met
-pub record Sound (f : Phase) (c : Cause) (row : Row) : Type 0 where
+pub record Sound (f : Phase) (c : Cause) (row : Option Row) : Type 0 where
   pub timers : settles f c row ≡ true
   pub call : holds f c row ≡ true
   pub message : says f c row ≡ true

@@ -6,6 +6,7 @@ use mathlib.Core.Bool.{Bool, true, false, cond}
 use lib.ListN.{length}
 use lib.Dec.{eqb}
 use borrow.Author.Tests.{eq-eqb, ne_eqb, eqb-true}
+use Rattle.std.specs.Prelude.{Option, None}
 use Rattle.writer.specs.Lent.{lent_after}
 use Rattle.call.specs.Settings.{settings_good}
 use Rattle.call.specs.declared.Settings.{Settings}
@@ -20,46 +21,46 @@ use Rattle.private_record.specs.declared.states.PrivateRecord.{PrivateRecord}
 use Rattle.private_record.proofs.WellFormed.{fit}
 use Rattle.private_rows.specs.Rows.{row_number, row_of}
 use Rattle.private_rows.specs.declared.Row.{Row}
-use Rattle.private_rows.specs.declared.Row.TheVariants.{Discard}
 use Rattle.private_rows.proofs.Meets.{same_row}
 use Rattle.private_call.specs.Carried.{carry_out}
 use Rattle.private_call.specs.Step.{identifier_taken, tests_with, number_with, number_before_sending, done_of, line_with, step_line, step_number, refused_of, moved_of, discarded, answer_met, buffer_with, step_of, step_buffer}
-use Rattle.private_call.specs.declared.carrying.Carried.{Carried}
-use Rattle.private_call.specs.declared.Stepped.{Stepped}
+use Rattle.stepping.specs.declared.Carried.{Carried}
+use Rattle.stepping.specs.Answer.{Answer}
 use Rattle.private_call.proofs.Keeping.{carried-well-formed, carried-sends-good}
 use Rattle.private_call.proofs.Discarding.{carried-nothing}
+use Rattle.private_record.specs.declared.states.Timers.{Timers}
 
 -- a discard sends nothing
-discard-sends : (s : Settings) (p : PrivateRecord) (i : Input) → line_with Discard s p i ≡ []
+discard-sends : (s : Settings) (p : PrivateRecord) (i : Input) → line_with None s p i ≡ []
 unfolding carry_out
 discard-sends s p i = refl
 
 -- the number of a step that meets a row: that of a test, else the writer's of what the row sends
-number-of-row : (row : Row) (s : Settings) (p : PrivateRecord) (i : Input) (out : List ℕ)
+number-of-row : (row : Option Row) (s : Settings) (p : PrivateRecord) (i : Input) (out : List ℕ)
     → number_with row s p i out ≡ number_sending (tests_with row s p i) (carry_out s p i row).sent (carry_out s p i row).next.call.media out
 number-of-row row s p i out = refl
 
 module _ (s : Settings) (p : PrivateRecord) (i : Input) where
   -- the answer of a step that is carried out
-  abbrev pub moved : Stepped
+  abbrev pub moved : Answer PrivateRecord Timers
   moved = moved_of (row_of s p i) (done_of s p i) (length (step_line s p i))
 
   -- the answer of a row above 0 is what it carries out
   pub answer-of-row : (row_number (row_of s p i) ≡ 0 → ⊥) → answer_met s p i ≡ moved
   answer-of-row f = rw (ne_eqb (row_number (row_of s p i)) 0 f) refl
 
-  -- so is that of whatever row is met from a well-formed record, be it Discard
+  -- so is that of whatever row is met from a well-formed record, be it None
   answer-moved : is_well_formed s p ≡ true → answer_met s p i ≡ moved
   answer-moved w = go (eqb (row_number (row_of s p i)) 0) refl
     where
       go : (b : Bool) → eqb (row_number (row_of s p i)) 0 ≡ b → cond b (discarded p) moved ≡ moved
       go false e = refl
       go true e =
-          let r = same_row (row_of s p i) Discard e in
+          let r = same_row (row_of s p i) None e in
           let d = carried-nothing s p i (fit s p w) r in
           sym (λ j. moved_of (r j) (d j) (length (line_sent (d j).sent (d j).next.call.media)))
 
-  -- the buffer is what the number and the line leave, be the row Discard
+  -- the buffer is what the number and the line leave, be the row None
   pub buffer_lent : (out : List ℕ) → step_buffer s p i out ≡ lent_after (step_number s p i out) (step_line s p i) out
   unfolding step_buffer
   buffer_lent out = go (eqb (row_number (row_of s p i)) 0) refl
@@ -68,7 +69,7 @@ module _ (s : Settings) (p : PrivateRecord) (i : Input) where
           → cond b out (lent_after (step_number s p i out) (step_line s p i) out) ≡ lent_after (step_number s p i out) (step_line s p i) out
       go false e = refl
       go true e =
-          let line : step_line s p i ≡ [] = ap (λ (row : Row). line_with row s p i) (same_row (row_of s p i) Discard e) ∙ discard-sends s p i in
+          let line : step_line s p i ≡ [] = ap (λ (row : Option Row). line_with row s p i) (same_row (row_of s p i) None e) ∙ discard-sends s p i in
           sym (ap (λ (l : List ℕ). lent_after (step_number s p i out) l out) line ∙ nothing_lent (step_number s p i out) out)
 
   -- ---- what a number 0 shows
@@ -122,7 +123,7 @@ module _ (s : Settings) (p : PrivateRecord) (i : Input) where
   unfolding step_of
   keeps-well-formed out g w =
       by_cases (step_number s p i out) (answer_met s p i) (λ n. refused_of n p) (λ x. is_well_formed s x.next ≡ true)
-      (λ e. ap (λ (x : Stepped). is_well_formed s x.next) (answer-moved w) ∙ carried-well-formed s p i (tests-passed (step-passed out e).0).0) (λ f. w)
+      (λ e. ap (λ (x : Answer PrivateRecord Timers). is_well_formed s x.next) (answer-moved w) ∙ carried-well-formed s p i (tests-passed (step-passed out e).0).0) (λ f. w)
 
   -- ---- sends-good
 
@@ -133,25 +134,24 @@ module _ (s : Settings) (p : PrivateRecord) (i : Input) where
 -- ---- a discard
 
 -- the answer by the number before sending, the row, and what is carried out
-abbrev step_from : PrivateRecord → List ℕ → ℕ → Row → Carried → Stepped
+abbrev step_from : PrivateRecord → List ℕ → ℕ → Option Row → Carried PrivateRecord Timers → Answer PrivateRecord Timers
 step_from p out n row d =
     let w = number_sending n d.sent d.next.call.media out in
     cond (eqb w 0) (cond (eqb (row_number row) 0) (discarded p) (moved_of row d (length (line_sent d.sent d.next.call.media)))) (refused_of w p)
 
 -- an event that meets no row and is not refused changes nothing
-pub discards : (s : Settings) (p : PrivateRecord) (i : Input) (out : List ℕ) → number_before_sending s p i ≡ 0 → row_of s p i ≡ Discard
+pub discards : (s : Settings) (p : PrivateRecord) (i : Input) (out : List ℕ) → number_before_sending s p i ≡ 0 → row_of s p i ≡ None
     → (step_of s p i out ≡ discarded p) × (step_buffer s p i out ≡ out)
 unfolding step_of step_buffer carry_out
 discards s p i out e r = (
   ap (λ (n : ℕ). cond (eqb n 0) (answer_met s p i) (refused_of n p)) (number-in-parts s p i out) ∙ (λ j. step_from p out (e j) (r j) (carry_out s p i (r j))),
-  ap (λ (row : Row). buffer_with row s p i out) r,
+  ap (λ (row : Option Row). buffer_with row s p i out) r,
 )
 
 -- so once the tests before the rows are passed, an event that meets no row is answered at once
-pub answered-at-once : (s : Settings) (p : PrivateRecord) (i : Input) (out : List ℕ) → number_before_row s (is_well_formed s p) i ≡ 0 → row_number (row_of s p i) ≡ 0
+pub answered-at-once : (s : Settings) (p : PrivateRecord) (i : Input) (out : List ℕ) → number_before_row s (is_well_formed s p) i ≡ 0 → row_of s p i ≡ None
     → (discarded p ≡ step_of s p i out) × (out ≡ step_buffer s p i out)
-answered-at-once s p i out e n =
-    let r = same_row (row_of s p i) Discard (eq-eqb (row_number (row_of s p i)) 0 n) in
+answered-at-once s p i out e r =
     let passed : number_before_sending s p i ≡ 0 =
     rw (tests-parts s (is_well_formed s p) i (identifier_taken s p i.event (row_of s p i)), eq-eqb (number_before_row s (is_well_formed s p) i) 0 e, ap (identifier_taken s p i.event) r) in
     let d = discards s p i out passed r in
@@ -166,5 +166,5 @@ row-0-keeps s p i out =
     (λ x. x.row ≡ 0 → (step_of s p i out ≡ refused_of (step_number s p i out) p) × (step_buffer s p i out ≡ out))
     (λ z h.
     let row = sym (answer-told s p i).1 ∙ h in
-    let d = discards s p i out (step-passed s p i out z).0 (same_row (row_of s p i) Discard (eq-eqb (row_number (row_of s p i)) 0 row)) in
+    let d = discards s p i out (step-passed s p i out z).0 (same_row (row_of s p i) None (eq-eqb (row_number (row_of s p i)) 0 row)) in
     (d.0 ∙ ap (λ (n : ℕ). refused_of n p) (sym z), d.1)) (λ f h. step-refused s p i out f)

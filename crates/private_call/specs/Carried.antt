@@ -1,11 +1,11 @@
 -- What carrying out a row gives, by the rules for all rows. Assumes nothing.
-use Rattle.std.specs.Prelude.{ℕ, ◌+◌, Bool, cond, not, ◌&&◌, ◌||◌, eqb, ltb}
+use Rattle.std.specs.Prelude.{ℕ, ◌+◌, Bool, cond, not, ◌&&◌, ◌||◌, eqb, ltb, Option, Some, None}
 use Rattle.frame.specs.declared.Media.{Media}
 use Rattle.frame.specs.declared.Parties.{Parties}
 use Rattle.frame.specs.declared.Message.TheVariants.{Ringing, Accept, Reject, Release, ReleaseAck, AcceptAck}
 use Rattle.call.specs.Settings.{restricted}
 use Rattle.call.specs.Request.{as_message, request_of}
-use Rattle.call.specs.Timing.{is_stopped, runs_after}
+use Rattle.call.specs.Timing.{stopped_of, running_after}
 use Rattle.call.specs.declared.Counters.{Counters}
 use Rattle.call.specs.declared.Settings.{Settings}
 use Rattle.call.specs.declared.PrivateTimer.{PrivateTimer}
@@ -13,8 +13,8 @@ use Rattle.call.specs.declared.Timer.{Timer}
 use Rattle.call.specs.declared.Event.{Event}
 use Rattle.call.specs.declared.Input.{Input}
 use Rattle.call.specs.declared.Request.{Request}
-use Rattle.call.specs.declared.Send.{Send}
-use Rattle.call.specs.declared.timers.TimerFacts.{TimerFacts}
+use Rattle.frame.specs.declared.Message.{Message}
+use Rattle.call.specs.declared.timers.TimerSets.{TimerSets}
 use Rattle.private_record.specs.Phases.{state_number, has, set_of, no_timer, tfp1, tfp2, tfp3, tfp4, tfp5, tfp7}
 use Rattle.private_record.specs.Formed.{no_call, call_request}
 use Rattle.private_record.specs.declared.states.State.{State}
@@ -27,8 +27,7 @@ use Rattle.private_call.specs.declared.effects.Hold.{Hold}
 use Rattle.private_call.specs.declared.effects.Reason.{Reason}
 use Rattle.private_call.specs.declared.effects.Say.{Say}
 use Rattle.private_call.specs.declared.effects.Effect.{Effect}
-use Rattle.private_call.specs.declared.carrying.Carried.{Carried}
-use Rattle.private_call.specs.declared.timers.TimerSets.{TimerSets}
+use Rattle.stepping.specs.declared.Carried.{Carried}
 use Rattle.private_call.specs.declared.carrying.CounterFacts.{CounterFacts}
 
 -- ---- the timers
@@ -68,25 +67,6 @@ started_of state to start =
       tfp5 = start.tfp5;
       tfp7 = start.tfp7 || (changes state to && eqb (state_number to) 1);
     }
-
--- what the rules ask of one timer, from the sets and from whether the state changes
-abbrev pub timer_facts : TimerSets → PrivateTimer → TimerFacts
-timer_facts x t =
-    record {
-      was_running = has x.was_running t;
-      ran_out = has x.ran_out t;
-      stop_asked = has x.stop_asked t;
-      started = has x.started t;
-      state_changes = x.state_changes;
-    }
-
--- the timers that are stopped, by the rule for each
-unfoldable pub stopped_of : TimerSets → Timers
-stopped_of x = set_of (λ t. is_stopped (timer_facts x t))
-
--- the timers that run afterwards, by the rule for each
-unfoldable pub running_after : TimerSets → Timers
-running_after x = set_of (λ t. runs_after (timer_facts x t))
 
 -- ---- the counters
 
@@ -140,16 +120,16 @@ abbrev pub reason_or : Settings → Reason → ℕ
 reason_or s reason = cond (restricted s) (reason_number Reason.Failed) (reason_number reason)
 
 -- the message has the fields of the call held afterwards; only where another call is refused, those of the request
-abbrev pub sent_of : Settings → Say → PrivateCall → Parties → Send
-sent_of s Say.Nothing call other = Send.Nothing
-sent_of s Say.SetupRequest call other = Send.Message (as_message (call_request call))
-sent_of s Say.Ringing call other = Send.Message (Ringing call.parties)
-sent_of s Say.Accept call other = Send.Message (Accept call.parties)
-sent_of s Say.Release call other = Send.Message (Release call.parties)
-sent_of s Say.ReleaseAck call other = Send.Message (ReleaseAck call.parties)
-sent_of s Say.AcceptAck call other = Send.Message (AcceptAck call.parties)
-sent_of s (Say.Reject reason) call other = Send.Message (Reject call.parties (reason_or s reason))
-sent_of s Say.RejectOther call other = Send.Message (Reject other (reason_or s Reason.Busy))
+abbrev pub sent_of : Settings → Option Say → PrivateCall → Parties → Option Message
+sent_of s None call other = None
+sent_of s (Some Say.SetupRequest) call other = Some (as_message (call_request call))
+sent_of s (Some Say.Ringing) call other = Some (Ringing call.parties)
+sent_of s (Some Say.Accept) call other = Some (Accept call.parties)
+sent_of s (Some Say.Release) call other = Some (Release call.parties)
+sent_of s (Some Say.ReleaseAck) call other = Some (ReleaseAck call.parties)
+sent_of s (Some Say.AcceptAck) call other = Some (AcceptAck call.parties)
+sent_of s (Some (Say.Reject reason)) call other = Some (Reject call.parties (reason_or s reason))
+sent_of s (Some Say.RejectOther) call other = Some (Reject other (reason_or s Reason.Busy))
 
 -- ---- the whole
 
@@ -158,17 +138,17 @@ abbrev pub started_by : State → Effect → Timers
 started_by state x = started_of state x.to x.start
 
 -- what the rules ask of the timers where some run, one ran out, and a row is carried out
-abbrev pub timers_by : State → Timers → Timers → Effect → TimerSets
+abbrev pub timers_by : State → Timers → Timers → Effect → TimerSets Timers
 timers_by state was out x =
     record { was_running = was; ran_out = out; stop_asked = x.stop; started = started_by state x; state_changes = changes state x.to }
 
 -- the timers that it stops
 abbrev pub stopped_by : State → Timers → Timers → Effect → Timers
-stopped_by state was out x = stopped_of (timers_by state was out x)
+stopped_by state was out x = stopped_of has set_of (timers_by state was out x)
 
 -- the timers that run afterwards
 abbrev pub running_by : State → Timers → Timers → Effect → Timers
-running_by state was out x = running_after (timers_by state was out x)
+running_by state was out x = running_after has set_of (timers_by state was out x)
 
 -- the next record
 abbrev pub next_by : Settings → PrivateRecord → Timers → Request → Media → Effect → PrivateRecord
@@ -181,7 +161,7 @@ next_by s p out r media x =
     }
 
 -- the next record, what stops, what starts, what is sent
-abbrev pub carried_by : Settings → PrivateRecord → Timers → Request → Media → Effect → Carried
+abbrev pub carried_by : Settings → PrivateRecord → Timers → Request → Media → Effect → Carried PrivateRecord Timers
 carried_by s p out r media x =
     record {
       next = next_by s p out r media x;
@@ -191,6 +171,6 @@ carried_by s p out r media x =
     }
 
 -- what carrying out a row gives
-unfoldable pub carry_out : Settings → PrivateRecord → Input → Row → Carried
+unfoldable pub carry_out : Settings → PrivateRecord → Input → Option Row → Carried PrivateRecord Timers
 carry_out s p i row =
     carried_by s p (ran_out_by i.event) (request_of s i.event) i.media (effect_of row p.state)

@@ -11,7 +11,8 @@ use Rattle.call.specs.declared.Event.{Event}
 use Rattle.call.specs.declared.Input.{Input}
 use Rattle.private_record.specs.declared.states.PrivateRecord.{PrivateRecord}
 use Rattle.private_call.specs.Step.{step_of, step_buffer}
-use Rattle.private_call.specs.declared.Stepped.{Stepped}
+use Rattle.stepping.specs.Answer.{Answer}
+use Rattle.private_record.specs.declared.states.Timers.{Timers}
 
 -- the expiry of a timer, with any media and verdicts beside it
 abbrev pub expiry : PrivateTimer → Media → Verdicts → Input
@@ -27,13 +28,13 @@ run_private s p [] = p
 run_private s p (x ∷ inputs) = run_private s (step_of s p x.0 x.1).next inputs
 
 -- their answers, each with the buffer as it is left
-abbrev pub trace_private : Settings → PrivateRecord → List (Input × List ℕ) → List (Stepped × List ℕ)
+abbrev pub trace_private : Settings → PrivateRecord → List (Input × List ℕ) → List (Answer PrivateRecord Timers × List ℕ)
 trace_private s p [] = []
 trace_private s p (x ∷ inputs) =
     (step_of s p x.0 x.1, step_buffer s p x.0 x.1) ∷ trace_private s (step_of s p x.0 x.1).next inputs
 
 -- the lines at the front of the buffers
-abbrev pub front_lines : List (Stepped × List ℕ) → List (List ℕ)
+abbrev pub front_lines : List (Answer PrivateRecord Timers × List ℕ) → List (List ℕ)
 front_lines [] = []
 front_lines (x ∷ trace) = cond (eqb x.0.length 0) (front_lines trace) (take x.0.length x.1 ∷ front_lines trace)
 

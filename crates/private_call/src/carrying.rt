@@ -1,17 +1,18 @@
 // What carrying out a row of the private call machine gives, by the rules for all rows.
-ghost use Rattle.std.specs.Prelude.{◌≡◌};
-ghost use Rattle.private_call.specs.Carried.{carry_out, one_more, counter_after, counters_after, call_of, with_media};
+ghost use Rattle.std.specs.Prelude.{◌≡◌, Some};
+ghost use Rattle.private_call.specs.Carried.{carry_out, one_more, counter_after, counters_after, call_of};
 ghost use Rattle.private_call.specs.Carried.{held_of, reason_or, sent_of};
 ghost use Rattle.call.specs.Request.{as_message};
 ghost use Rattle.private_record.specs.Formed.{call_request};
 
 use crate::effects::{Hold, Reason, Say, effect_of};
 use crate::timers;
-use crate::timers::TimerSets;
-use call::{Counters, Input, Request, Send, Settings, request_of};
+use call::timers::TimerSets;
+use call::{Counters, Input, Request, Settings, request_of};
 use frame::{Media, Message, Parties};
 use private_record::states::{PrivateCall, PrivateRecord, Timers};
 use private_rows::Row;
+use stepping::Carried;
 
 // ---- the counters
 
@@ -46,18 +47,14 @@ impl CounterFacts {
     fn after(self) -> u8
         ensures { result ≡ counter_after self }
     {
-        if self.runs {
-            if self.started {
-                if self.again {
-                    one_more(self.limit, self.was)
-                } else {
-                    Counters::LEAST
-                }
-            } else {
-                self.was
-            }
-        } else {
+        if !self.runs {
             0
+        } else if !self.started {
+            self.was
+        } else if self.again {
+            one_more(self.limit, self.was)
+        } else {
+            Counters::LEAST
         }
     }
 }
@@ -73,31 +70,20 @@ fn counters_after(
 ) -> Counters
     ensures { result ≡ counters_after running started again limits counters }
 {
+    let after = |runs, started, limit, was| {
+        CounterFacts {
+            runs,
+            started,
+            again,
+            limit,
+            was,
+        }
+        .after()
+    };
     Counters {
-        cfp1: CounterFacts {
-            runs: running.tfp1,
-            started: started.tfp1,
-            again: again,
-            limit: limits.cfp1,
-            was: counters.cfp1,
-        }
-        .after(),
-        cfp3: CounterFacts {
-            runs: running.tfp3,
-            started: started.tfp3,
-            again: again,
-            limit: limits.cfp3,
-            was: counters.cfp3,
-        }
-        .after(),
-        cfp4: CounterFacts {
-            runs: running.tfp4,
-            started: started.tfp4,
-            again: again,
-            limit: limits.cfp4,
-            was: counters.cfp4,
-        }
-        .after(),
+        cfp1: after(running.tfp1, started.tfp1, limits.cfp1, counters.cfp1),
+        cfp3: after(running.tfp3, started.tfp3, limits.cfp3, counters.cfp3),
+        cfp4: after(running.tfp4, started.tfp4, limits.cfp4, counters.cfp4),
     }
 }
 
@@ -107,37 +93,25 @@ fn counters_after(
 fn call_of(request: Request, media: Media) -> PrivateCall
     ensures { result ≡ call_of request media }
 {
-    let parties = request.parties;
     PrivateCall {
-        parties: parties,
+        parties: request.parties,
         commencement: request.setup.commencement,
-        media: media,
+        media,
         pck_id: request.setup.pck_id,
     }
 }
 
-// A call with other media.
-fn with_media(stored: PrivateCall, media: Media) -> PrivateCall
-    ensures { result ≡ with_media stored media }
-{
-    let parties = stored.parties;
-    PrivateCall {
-        parties: parties,
-        commencement: stored.commencement,
-        media: media,
-        pck_id: stored.pck_id,
-    }
-}
-
-// The call that the record holds afterwards.
-fn held(hold: Hold, stored: PrivateCall, request: Request, media: Media) -> PrivateCall
-    ensures { result ≡ held_of hold stored request media }
-{
-    match hold {
-        Hold::Keep => stored,
-        Hold::Request => call_of(request, media),
-        Hold::Media => with_media(stored, media),
-        Hold::Clear => PrivateCall::NONE,
+impl Hold {
+    // The call that the record holds afterwards.
+    fn held(self, stored: PrivateCall, request: Request, media: Media) -> PrivateCall
+        ensures { result ≡ held_of self stored request media }
+    {
+        match self {
+            Hold::Keep => stored,
+            Hold::Request => call_of(request, media),
+            Hold::Media => PrivateCall { media, ..stored },
+            Hold::Clear => PrivateCall::NONE,
+        }
     }
 }
 
@@ -148,9 +122,9 @@ fn reason_or(settings: Settings, reason: Reason) -> u8
     ensures { result ≡ reason_or settings reason }
 {
     if settings.restricted() {
-        Reason::Failed.number()
+        Reason::Failed as u8
     } else {
-        reason.number()
+        reason as u8
     }
 }
 
@@ -158,44 +132,28 @@ fn reason_or(settings: Settings, reason: Reason) -> u8
 fn setup_request(call: PrivateCall) -> Message
     ensures { result ≡ as_message (call_request call) }
 {
-    let parties = call.parties;
-    let request = Request::private(parties, call.commencement, call.pck_id);
-    let same_parties = request.parties;
-    let setup = request.setup;
-    Message::SetupRequest(same_parties, setup)
+    let request = Request::private(call.parties, call.commencement, call.pck_id);
+    Message::SetupRequest(request.parties, request.setup)
 }
 
 // What is sent, from the call held afterwards; where another call is refused, with the parties of its request.
-fn sent(settings: Settings, say: Say, call: PrivateCall, other: Parties) -> Send
+fn sent(settings: Settings, say: Option<Say>, call: PrivateCall, other: Parties) -> Option<Message>
     ensures { result ≡ sent_of settings say call other }
 {
-    let parties = call.parties;
-    match say {
-        Say::Nothing => Send::Nothing,
-        Say::SetupRequest => Send::Message(setup_request(call)),
-        Say::Ringing => Send::Message(Message::Ringing(parties)),
-        Say::Accept => Send::Message(Message::Accept(parties)),
-        Say::Release => Send::Message(Message::Release(parties)),
-        Say::ReleaseAck => Send::Message(Message::ReleaseAck(parties)),
-        Say::AcceptAck => Send::Message(Message::AcceptAck(parties)),
-        Say::Reject(reason) => Send::Message(Message::Reject(parties, reason_or(settings, reason))),
-        Say::RejectOther => Send::Message(Message::Reject(
-            other,
-            reason_or(settings, Reason::Busy),
-        )),
-    }
+    let message = match say? {
+        Say::SetupRequest => setup_request(call),
+        Say::Ringing => Message::Ringing(call.parties),
+        Say::Accept => Message::Accept(call.parties),
+        Say::Release => Message::Release(call.parties),
+        Say::ReleaseAck => Message::ReleaseAck(call.parties),
+        Say::AcceptAck => Message::AcceptAck(call.parties),
+        Say::Reject(reason) => Message::Reject(call.parties, reason_or(settings, reason)),
+        Say::RejectOther => Message::Reject(other, reason_or(settings, Reason::Busy)),
+    };
+    Some(message)
 }
 
 // ---- the whole
-
-// What carrying out a row gives: the next record, the timers to stop, then those to start, and what is sent.
-#[derive(Clone, Copy)]
-pub struct Carried {
-    pub next: PrivateRecord,
-    pub stop: Timers,
-    pub start: Timers,
-    pub sent: Send,
-}
 
 // Carries out a row.
 #[tactic(auto, unfolding(crate::specs::Carried::carry_out))]
@@ -204,44 +162,36 @@ pub(crate) fn carry_out(
     stored: PrivateRecord,
     input: Input,
     row: Row,
-) -> Carried
-    ensures { result ≡ carry_out settings stored input row }
+) -> Carried<PrivateRecord, Timers>
+    ensures { result ≡ carry_out settings stored input (Some row) }
 {
-    let state = stored.state;
-    let was = stored.running;
-    let counters = stored.counters;
-    let call = stored.call;
-    let event = input.event;
-    let media = input.media;
-    let limits = settings.limits;
-    let effect = effect_of(row, state);
-    let to = effect.to;
-    let start = effect.start;
-    let asked = effect.stop;
-    let hold = effect.hold;
-    let say = effect.say;
-    let request = request_of(settings, event);
-    let other = request.parties;
-    let out = timers::ran_out(event);
-    let started = timers::started(state, to, start);
+    let effect = effect_of(row, stored.state);
+    let request = request_of(settings, input.event);
+    let started = timers::started(stored.state, effect.to, effect.start);
     let sets = TimerSets {
-        was_running: was,
-        ran_out: out,
-        stop_asked: asked,
-        started: started,
-        state_changes: timers::state_changes(state, to),
+        was_running: stored.running,
+        ran_out: timers::ran_out(input.event),
+        stop_asked: effect.stop,
+        started,
+        state_changes: stored.state != effect.to,
     };
     let running = sets.running_after();
-    let after = held(hold, call, request, media);
+    let call = effect.hold.held(stored.call, request, input.media);
     Carried {
         next: PrivateRecord {
-            state: to,
-            running: running,
-            counters: counters_after(running, started, effect.again, limits, counters),
-            call: after,
+            state: effect.to,
+            running,
+            counters: counters_after(
+                running,
+                started,
+                effect.again,
+                settings.limits,
+                stored.counters,
+            ),
+            call,
         },
         stop: sets.stopped(),
         start: started,
-        sent: sent(settings, say, after, other),
+        sent: sent(settings, effect.say, call, request.parties),
     }
 }

@@ -1,10 +1,7 @@
 // What becomes of the timers, by the rules for all rows.
 ghost use Rattle.std.specs.Prelude.{◌≡◌};
-ghost use Rattle.private_record.specs.Phases.{state_number, has as has_timer};
-ghost use Rattle.private_call.specs.Carried.{ran_out_by, timer_out, private_timer_out, changes, started_of};
-ghost use Rattle.private_call.specs.Carried.{timer_facts, stopped_of, running_after};
+ghost use Rattle.private_call.specs.Carried.{ran_out_by, private_timer_out, started_of};
 
-use call::timers::TimerFacts;
 use call::{Event, PrivateTimer, Timer};
 use private_record::states::{State, Timers};
 
@@ -22,46 +19,14 @@ fn private_timer_out(timer: PrivateTimer) -> Timers
     }
 }
 
-// A timer of either machine that just ran out.
-fn timer_out(timer: Timer) -> Timers
-    ensures { result ≡ timer_out timer }
-{
-    match timer {
-        Timer::Private(t) => private_timer_out(t),
-        Timer::Group(_) => Timers::NONE,
-    }
-}
-
 // The timer that just ran out.
 pub(crate) fn ran_out(event: Event) -> Timers
     ensures { result ≡ ran_out_by event }
 {
     match event {
-        Event::Action(_) => Timers::NONE,
-        Event::Expiry(timer) => timer_out(timer),
-        Event::Message(_) => Timers::NONE,
+        Event::Expiry(Timer::Private(timer)) => private_timer_out(timer),
+        _ => Timers::NONE,
     }
-}
-
-// The states by their numbers.
-fn state_number(state: State) -> u8
-    ensures { result ≡ state_number state }
-{
-    match state {
-        State::P0 => 0,
-        State::P1 => 1,
-        State::P2 => 2,
-        State::P3 => 3,
-        State::P4 => 4,
-        State::P5 => 5,
-    }
-}
-
-// Whether the state changes.
-pub(crate) fn state_changes(state: State, to: State) -> bool
-    ensures { result ≡ changes state to }
-{
-    !(state_number(state) == state_number(to))
 }
 
 // What starts: what the row starts, and TFP7 where it enters P1.
@@ -69,86 +34,8 @@ pub(crate) fn state_changes(state: State, to: State) -> bool
 pub(crate) fn started(state: State, to: State, start: Timers) -> Timers
     ensures { result ≡ started_of state to start }
 {
-    let enters_p1 = state_changes(state, to) & (state_number(to) == 1);
     Timers {
-        tfp1: start.tfp1,
-        tfp2: start.tfp2,
-        tfp3: start.tfp3,
-        tfp4: start.tfp4,
-        tfp5: start.tfp5,
-        tfp7: start.tfp7 | enters_p1,
-    }
-}
-
-// Whether a timer is in a set.
-fn has(timers: Timers, timer: PrivateTimer) -> bool
-    ensures { result ≡ has_timer timers timer }
-{
-    match timer {
-        PrivateTimer::Tfp1 => timers.tfp1,
-        PrivateTimer::Tfp2 => timers.tfp2,
-        PrivateTimer::Tfp3 => timers.tfp3,
-        PrivateTimer::Tfp4 => timers.tfp4,
-        PrivateTimer::Tfp5 => timers.tfp5,
-        PrivateTimer::Tfp7 => timers.tfp7,
-    }
-}
-
-// What the rules ask of the timers: the sets, and whether the state changes.
-#[derive(Clone, Copy)]
-pub struct TimerSets {
-    pub was_running: Timers,
-    pub ran_out: Timers,
-    pub stop_asked: Timers,
-    pub started: Timers,
-    pub state_changes: bool,
-}
-
-impl TimerSets {
-    // What they ask of one timer.
-    fn of(self, timer: PrivateTimer) -> TimerFacts
-        ensures { result ≡ timer_facts self timer }
-    {
-        let was_running = self.was_running;
-        let ran_out = self.ran_out;
-        let stop_asked = self.stop_asked;
-        let started = self.started;
-        TimerFacts {
-            was_running: has(was_running, timer),
-            ran_out: has(ran_out, timer),
-            stop_asked: has(stop_asked, timer),
-            started: has(started, timer),
-            state_changes: self.state_changes,
-        }
-    }
-
-    // What stops.
-    #[tactic(auto, unfolding(crate::specs::Carried::stopped_of))]
-    pub(crate) fn stopped(self) -> Timers
-        ensures { result ≡ stopped_of self }
-    {
-        Timers {
-            tfp1: self.of(PrivateTimer::Tfp1).is_stopped(),
-            tfp2: self.of(PrivateTimer::Tfp2).is_stopped(),
-            tfp3: self.of(PrivateTimer::Tfp3).is_stopped(),
-            tfp4: self.of(PrivateTimer::Tfp4).is_stopped(),
-            tfp5: self.of(PrivateTimer::Tfp5).is_stopped(),
-            tfp7: self.of(PrivateTimer::Tfp7).is_stopped(),
-        }
-    }
-
-    // What runs afterwards.
-    #[tactic(auto, unfolding(crate::specs::Carried::running_after))]
-    pub(crate) fn running_after(self) -> Timers
-        ensures { result ≡ running_after self }
-    {
-        Timers {
-            tfp1: self.of(PrivateTimer::Tfp1).runs_after(),
-            tfp2: self.of(PrivateTimer::Tfp2).runs_after(),
-            tfp3: self.of(PrivateTimer::Tfp3).runs_after(),
-            tfp4: self.of(PrivateTimer::Tfp4).runs_after(),
-            tfp5: self.of(PrivateTimer::Tfp5).runs_after(),
-            tfp7: self.of(PrivateTimer::Tfp7).runs_after(),
-        }
+        tfp7: start.tfp7 || (state != to && to == State::P1),
+        ..start
     }
 }

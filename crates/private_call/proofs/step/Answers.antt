@@ -1,17 +1,20 @@
 -- A step is refused by a test, discarded, refused by R1, refused by the writer, or carried out. Assumes nothing.
-use Rattle.std.proofs.Common.{◌≡◌, ℕ, Bool, List, sym, ap, ◌∙◌}
-use Rattle.writer.specs.declared.Written.{Written}
+use Rattle.std.proofs.Common.{◌≡◌, ℕ, Bool, List, Some, sym, ap, ◌∙◌}
+use Rattle.std.proofs.lemmas.Result.{err_from_is_err_and}
+use Rattle.writer.specs.Lent.{Written}
 use Rattle.call.specs.declared.Settings.{Settings}
 use Rattle.call.specs.declared.Input.{Input}
 use Rattle.stepping.specs.Numbers.{number_before_row}
 use Rattle.stepping.specs.Sending.{send_told, send_buffer}
+use Rattle.stepping.specs.declared.Carried.{Carried}
+use Rattle.stepping.proofs.Answers.{refusal-given}
 use Rattle.private_record.specs.Formed.{is_well_formed}
+use Rattle.private_record.specs.declared.states.Timers.{Timers}
 use Rattle.private_record.specs.declared.states.PrivateRecord.{PrivateRecord}
-use Rattle.private_rows.specs.Rows.{row_number, row_of}
+use Rattle.private_rows.specs.Rows.{row_of}
 use Rattle.private_rows.specs.declared.Row.{Row}
 use Rattle.private_call.specs.Carried.{carry_out}
 use Rattle.private_call.specs.Step.{identifier_taken, done_of, refused_of, moved_of}
-use Rattle.private_call.specs.declared.carrying.Carried.{Carried}
 use Rattle.private_call.proofs.Answers.{refused-first, refused-by-row, refused-sending, carried-out}
 use Rattle.private_call.proofs.Steps.{answered-at-once}
 use Rattle.private_call.proofs.step.Goals as goal
@@ -22,75 +25,74 @@ number : (s : Settings) (p : PrivateRecord) (i : Input) (formed : Bool) (n : ℕ
 number s p i formed n f e = e ∙ ap (λ (w : Bool). number_before_row s w i) f
 
 -- whether R1 refuses
-taken : (s : Settings) (p : PrivateRecord) (i : Input) (row : Row) (b : Bool) → row ≡ row_of s p i → b ≡ identifier_taken s p i.event row
+taken : (s : Settings) (p : PrivateRecord) (i : Input) (row : Row) (b : Bool) → row_of s p i ≡ Some row → b ≡ identifier_taken s p i.event (Some row)
     → identifier_taken s p i.event (row_of s p i) ≡ b
-taken s p i row b r e = sym (e ∙ ap (identifier_taken s p i.event) r)
-
--- the number of the row that is met
-met : (s : Settings) (p : PrivateRecord) (i : Input) (row : Row) (n : ℕ) → row ≡ row_of s p i → n ≡ row_number row → row_number (row_of s p i) ≡ n
-met s p i row n r e = sym (e ∙ ap row_number r)
+taken s p i row b m e = ap (identifier_taken s p i.event) m ∙ sym e
 
 -- what is carried out
-done : (s : Settings) (p : PrivateRecord) (i : Input) (row : Row) (d : Carried) → row ≡ row_of s p i → d ≡ carry_out s p i row → d ≡ done_of s p i
-done s p i row d r e = e ∙ ap (carry_out s p i) r
+done : (s : Settings) (p : PrivateRecord) (i : Input) (row : Row) (d : Carried PrivateRecord Timers) → row_of s p i ≡ Some row → d ≡ carry_out s p i (Some row)
+    → d ≡ done_of s p i
+done s p i row d m e = e ∙ ap (carry_out s p i) (sym m)
 
 -- what the writer tells
-told : (d e : Carried) (out : List ℕ) (written : Written) → d ≡ e → written ≡ send_told d.sent d.next.call.media out
+told : (d e : Carried PrivateRecord Timers) (out : List ℕ) (written : Written) → d ≡ e → written ≡ send_told d.sent d.next.call.media out
     → written ≡ send_told e.sent e.next.call.media out
-told d e out written r t = t ∙ ap (λ (x : Carried). send_told x.sent x.next.call.media out) r
+told d e out written r t = t ∙ ap (λ (x : Carried PrivateRecord Timers). send_told x.sent x.next.call.media out) r
 
 -- what the writer leaves
-left : (d e : Carried) (out after : List ℕ) → d ≡ e → after ≡ send_buffer d.sent d.next.call.media out
+left : (d e : Carried PrivateRecord Timers) (out after : List ℕ) → d ≡ e → after ≡ send_buffer d.sent d.next.call.media out
     → after ≡ send_buffer e.sent e.next.call.media out
-left d e out after r t = t ∙ ap (λ (x : Carried). send_buffer x.sent x.next.call.media out) r
+left d e out after r t = t ∙ ap (λ (x : Carried PrivateRecord Timers). send_buffer x.sent x.next.call.media out) r
 
-pub returns-then-number-ne0 : goal.returns-then-number-ne0
-returns-then-number-ne0 c =
+pub returns-in_err-number_before_row : goal.returns-in_err-number_before_row
+returns-in_err-number_before_row c =
     let a = c.args in
-    let n = number a.settings a.stored a.input _ _ c.well_formed-2.ensures c.number_before_row-number.ensures in
-    let r = refused-first a.settings a.stored a.input a.out.now (λ e. c.if-number-ne0.true (n ∙ e)) in
-    record { value = c.refused.ensures ∙ ap (λ (n : ℕ). refused_of n a.stored) n ∙ r.0; out_after = r.1 }
+    let refusal = c.in_err-number_before_row.field-0.0 in
+    let p = err_from_is_err_and c.from_residual.result c.from_residual.ensures.1 in
+    let n = number a.settings a.stored a.input _ _ c.well_formed-2.ensures c.in_err-number_before_row.ensures in
+    let r = refused-first a.settings a.stored a.input a.out.now (λ e. refusal-given refusal (n ∙ e)) in
+    record { value = rw (p.1, p.2) (ap (λ (n : ℕ). refused_of n a.stored) n ∙ r.0); out_after = r.1 }
 
-pub returns-then-row_number-eq0 : goal.returns-then-row_number-eq0
-returns-then-row_number-eq0 c =
+pub returns-in_default : goal.returns-in_default
+returns-in_default c =
     let a = c.args in
-    let n = number a.settings a.stored a.input _ _ c.well_formed-2.ensures c.number_before_row-number.ensures in
-    let m = met a.settings a.stored a.input _ _ c.row_of-row.ensures c.row_number.ensures in
-    let r = answered-at-once a.settings a.stored a.input a.out.now (sym n ∙ c.if-number-ne0.false) (m ∙ c.if-row_number-eq0.true) in
-    record { value = c.refused-then-row_number-eq0.ensures ∙ r.0; out_after = r.1 }
+    let n = number a.settings a.stored a.input _ _ c.well_formed-2.ensures c.in_ok-number_before_row.ensures in
+    let r = answered-at-once a.settings a.stored a.input a.out.now (sym n) (sym c.row_of.ensures ∙ c.in_default.is) in
+    record { value = r.0; out_after = r.1 }
 
 pub returns-then-identifier_taken : goal.returns-then-identifier_taken
 returns-then-identifier_taken c =
     let a = c.args in
-    let n = number a.settings a.stored a.input _ _ c.well_formed-2.ensures c.number_before_row-number.ensures in
-    let t = taken a.settings a.stored a.input _ _ c.row_of-row.ensures c.if-identifier_taken.ensures in
-    let r = refused-by-row a.settings a.stored a.input a.out.now (sym n ∙ c.if-number-ne0.false) t in
-    record { value = c.refused-then-identifier_taken.ensures ∙ r.0; out_after = r.1 }
+    let n = number a.settings a.stored a.input _ _ c.well_formed-2.ensures c.in_ok-number_before_row.ensures in
+    let t = taken a.settings a.stored a.input _ _ (sym c.row_of.ensures ∙ c.in-Some.is) c.if-identifier_taken.ensures in
+    let r = refused-by-row a.settings a.stored a.input a.out.now (sym n) t in
+    record { value = r.0; out_after = r.1 }
 
-pub returns-then-written-ne0 : goal.returns-then-written-ne0
-returns-then-written-ne0 c =
+pub returns-in_err-length : goal.returns-in_err-length
+returns-in_err-length c =
     let a = c.args in
-    let n = number a.settings a.stored a.input _ _ c.well_formed-2.ensures c.number_before_row-number.ensures in
-    let t = taken a.settings a.stored a.input _ _ c.row_of-row.ensures c.if-identifier_taken.ensures in
-    let d = done a.settings a.stored a.input _ _ c.row_of-row.ensures c.carry_out-done.ensures in
-    let w = told _ _ a.out.now _ d c.write_sent-written.ensures.value in
-    let b = left _ _ a.out.now _ d c.write_sent-written.ensures.out_after in
-    let r = refused-sending a.settings a.stored a.input a.out.now (sym n ∙ c.if-number-ne0.false) t
-    (λ z. c.if-written-ne0.true (ap (λ (x : Written). x.number) w ∙ z)) in
-    record { value = c.refused-then-written-ne0.ensures ∙ ap (λ (x : Written). refused_of x.number a.stored) w ∙ r.0; out_after = b ∙ r.1 }
+    let refusal = c.in_err-length.field-0.0 in
+    let p = err_from_is_err_and c.from_residual-in_err-length.result c.from_residual-in_err-length.ensures.1 in
+    let n = number a.settings a.stored a.input _ _ c.well_formed-2.ensures c.in_ok-number_before_row.ensures in
+    let m = sym c.row_of.ensures ∙ c.in-Some.is in
+    let t = taken a.settings a.stored a.input _ _ m c.if-identifier_taken.ensures in
+    let d = done a.settings a.stored a.input _ _ m c.carry_out-done.ensures in
+    let w = ap (λ (x : Written). x.number) (told _ _ a.out.now _ d c.in_err-length.ensures.value) in
+    let b = left _ _ a.out.now _ d c.in_err-length.ensures.out_after in
+    let r = refused-sending a.settings a.stored a.input a.out.now (sym n) t (λ e. refusal-given refusal (w ∙ e)) in
+    record { value = rw (p.1, p.2) (ap (λ (n : ℕ). refused_of n a.stored) w ∙ r.0); out_after = b ∙ r.1 }
 
 pub returns : goal.returns
 returns c =
     let a = c.args in
-    let n = number a.settings a.stored a.input _ _ c.well_formed-2.ensures c.number_before_row-number.ensures in
-    let m = met a.settings a.stored a.input _ _ c.row_of-row.ensures c.row_number.ensures in
-    let t = taken a.settings a.stored a.input _ _ c.row_of-row.ensures c.if-identifier_taken.ensures in
-    let d = done a.settings a.stored a.input _ _ c.row_of-row.ensures c.carry_out-done.ensures in
-    let w = told _ _ a.out.now _ d c.write_sent-written.ensures.value in
-    let b = left _ _ a.out.now _ d c.write_sent-written.ensures.out_after in
-    let r = carried-out a.settings a.stored a.input a.out.now (sym n ∙ c.if-number-ne0.false) (λ e. c.if-row_number-eq0.false (sym m ∙ e)) t
-    (ap (λ (x : Written). x.number) (sym w) ∙ c.if-written-ne0.false) in
+    let n = number a.settings a.stored a.input _ _ c.well_formed-2.ensures c.in_ok-number_before_row.ensures in
+    let m = sym c.row_of.ensures ∙ c.in-Some.is in
+    let t = taken a.settings a.stored a.input _ _ m c.if-identifier_taken.ensures in
+    let d = done a.settings a.stored a.input _ _ m c.carry_out-done.ensures in
+    let w = told _ _ a.out.now _ d c.in_ok-length.ensures.value in
+    let b = left _ _ a.out.now _ d c.in_ok-length.ensures.out_after in
+    let r = carried-out a.settings a.stored a.input a.out.now (sym n) m t (sym (ap (λ (x : Written). x.number) w)) in
     record {
-      value = c.moved.ensures ∙ (λ j. moved_of (c.row_of-row.ensures j) (d j) (w j).length) ∙ r.0;
+      value = (λ j. moved_of (sym m j) (d j) (w j).length) ∙ r.0;
       out_after = b ∙ r.1;
     }

@@ -69,9 +69,9 @@ function listed(text) { return text == "" || text == "-" ? "" : ", " text }
 
 # What a row sends, in words.
 function said_by(value, row, part, n) {
+    if (value == "None") return ""
     n = split(value, part, " ")
     if (n < 1 || n > 2 || part[1] !~ /^Say\./) refuse(doing, row ": cannot read what it says, '" value "'")
-    if (part[1] == "Say.Nothing") return ""
     return "sends " called("say", tail_of(part[1]), doing, row) (n == 2 ? " (" called("reason", tail_of(part[2]), doing, row) ")" : "")
 }
 

@@ -124,7 +124,7 @@ function compare_tables(i, row, seen) {
         row = clause_of["effect_of", i]
         if (row in seen) refuse(doing, row ": effect_of has two clauses for it")
         seen[row] = 1
-        if (row != "Discard" && !(row in asks_of)) refuse(asking, row ": is not in rows_ask, but " doing " has a clause for it")
+        if (row != "None" && !(row in asks_of)) refuse(asking, row ": is not in rows_ask, but " doing " has a clause for it")
     }
     for (i = 1; i <= rows; i++)
         if (!(row_at[i] in seen)) refuse(doing, row_at[i] ": effect_of has no clause for it, but it is in rows_ask of " asking)
@@ -157,6 +157,7 @@ function read_effect(text, row, value, field, part, n, i) {
         split(field[i], part, " ")
         if (part[1] !~ /^(to|stop|start|again|hold|say)$/ || part[2] != "=") refuse(doing, row ": cannot read '" field[i] "'")
         value[part[1]] = bare(substr(field[i], length(part[1]) + 4))
+        if (sub(/^Some /, "", value[part[1]])) value[part[1]] = bare(value[part[1]])
     }
     if (value["to"] != "state" && !(tail_of(value["to"]) in sets)) refuse(doing, row ": enters '" value["to"] "', which is no state of " running)
 }

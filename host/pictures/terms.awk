@@ -45,6 +45,13 @@ function bracketed(text, t, n, i, out, o, from, opened, depth) {
     return text
 }
 
+# Tokens in which a case that may be missing is read as the case itself: ( Some G1 ) is G1, and None stays.
+function unwrapped(text) {
+    while (match(text, /\( Some [A-Z][A-Za-z0-9]*(\.[A-Za-z0-9]+)? \)/))
+        text = substr(text, 1, RSTART - 1) substr(text, RSTART + 7, RLENGTH - 9) substr(text, RSTART + RLENGTH)
+    return text
+}
+
 # Reads the clauses of a file: see `keep_clause`.
 function load(path, kept, line, whole, got) {
     while ((got = (getline line <path)) > 0) {
@@ -64,7 +71,7 @@ function load(path, kept, line, whole, got) {
 # Where `kept` is "text", that and how often there is one are all, and the name does not stand for its definition in a term; where it is
 # "quote", the file does not define the clause but quotes it, and this is all that is kept.
 function keep_clause(path, whole, kept, at, left, n, i) {
-    whole = bracketed(whole)
+    whole = unwrapped(bracketed(whole))
     if (!(at = index(whole, " = "))) return
     n = split(substr(whole, 1, at - 1), left, " ")
     if (kept == "quote") {

@@ -68,7 +68,7 @@ function read_causes_and_messages(clause, t, value) {
         value = substr(clause, index(clause, " = ") + 3)
         if (t[1] ~ /^(private|group)_action_cause$/) means("cause", tail_of(value), "user " tolower(tail_of(t[2] == "(" ? t[3] : t[2])) "s", causing)
         if (t[1] == "message_cause" && (value = cause_named(value)) != "Other") means("cause", value, in_capitals(t[4]) " heard", causing)
-        if (t[1] == "sent_of") means("say", tail_of(t[3] == "(" ? t[4] : t[3]), message_in(value), carrying)
+        if (t[1] == "sent_of" && value != "None") means("say", tail_of(t[4] == "Some" ? t[6] : t[3]), message_in(value), carrying)
     }
 }
 
@@ -86,7 +86,6 @@ function cause_named(value, clause, t) {
 
 # The name of the message that is sent, with its reason where that is always the same one.
 function message_in(value, t, clause, reason) {
-    if (value == "Send.Nothing") return "-"
     split(value, t, " ")
     if (t[3] == "as_message")
         for (clause in is_clause) if (index(clause, "as_message r = ") == 1) split("- - " substr(clause, 15), t, " ")

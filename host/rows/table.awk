@@ -33,7 +33,7 @@ function check_numbers(clause, part, seen, n) {
         n = split(clause, part, " ")
         if (part[1] ~ /^(cause|state)_number$/ && seen[part[1], part[n]]++)
             refuse(part[1] == "cause_number" ? causing : running, part[1] ": gives " part[n] " twice")
-        if (part[1] == "row_number" && substr(part[2], 2) != part[n] && part[2] " " part[n] != "Discard 0")
+        if (part[1] == "row_number" && substr(part[2], 2) != part[n] && part[2] " " part[n] != "None 0")
             refuse(asking, "row_number: gives " part[n] " to " part[2])
     }
 }
@@ -259,8 +259,8 @@ function stored_by(row, hold, c, said, out) {
 
 # What a row sends, in words.
 function sent_by(row, say, part, n) {
+    if (say == "None") return ""
     n = split(say, part, " ")
     if (n < 1 || n > 2 || part[1] !~ /^Say\./) refuse(doing, row ": cannot read what it says, '" say "'")
-    if (part[1] == "Say.Nothing") return ""
     return called("say", tail_of(part[1]), doing, row) (n == 2 ? ", " called("reason", tail_of(part[2]), doing, row) : "")
 }

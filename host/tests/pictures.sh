@@ -106,8 +106,8 @@ notices() {
     judge "noticed: $1" $ended 1
     [ -z "$(untouched)" ] || verdict "nothing is written with --check" "$(untouched)"
 }
-notices "a row that enters another state" $private_effects '/^effect_of R8 /s/State.P3 tfp3/State.P1 no_timer/' "not up to date: docs/private-call.svg"
-notices "a row that sends something else" $private_effects '/^effect_of R26 /s/Reason.Failed/Reason.Reject/' "not up to date: docs/private-call.svg"
+notices "a row that enters another state" $private_effects '/^effect_of (Some R8) /s/State.P3 tfp3/State.P1 no_timer/' "not up to date: docs/private-call.svg"
+notices "a row that sends something else" $private_effects '/^effect_of (Some R26) /s/Reason.Failed/Reason.Reject/' "not up to date: docs/private-call.svg"
 notices "a row that is met in one state less" $private_rows \
     's/(R13, (in_state 3 f || (in_state 4 f || in_state 5 f))/(R13, (in_state 4 f || in_state 5 f)/' "not up to date: docs/private-call.svg"
 notices "a verb that does something else" $group_effects '/^restarts /s/stop = timers/stop = no_timer/' \
@@ -179,13 +179,13 @@ refuses() {
     judge_refusal "refused: $1" $? "pictures: $4"
     [ -z "$(untouched)" ] || verdict "nothing is written where a table cannot be read" "$(untouched)"
 }
-refuses "a verb that is not defined" $private_effects '/^effect_of R8 /s/enters/jumps/' \
+refuses "a verb that is not defined" $private_effects '/^effect_of (Some R8) /s/enters/jumps/' \
     "$private_effects: R8: cannot read 'jumps State.P3 tfp3 Hold.Keep Say.Release'"
-refuses "a state that is none" $private_effects '/^effect_of R8 /s/State.P3/State.P6/' \
+refuses "a state that is none" $private_effects '/^effect_of (Some R8) /s/State.P3/State.P6/' \
     "$private_effects: R8: enters 'State.P6', which is no state of $private_phases"
-refuses "timers that do not run in the state entered" $private_effects '/^effect_of R8 /s/tfp3/tfp4/' \
+refuses "timers that do not run in the state entered" $private_effects '/^effect_of (Some R8) /s/tfp3/tfp4/' \
     "$private_effects: R8: enters P3 with timers that do not run there: 'TFP4'"
-refuses "a row that does nothing known" $private_effects '/^effect_of R8 /d' \
+refuses "a row that does nothing known" $private_effects '/^effect_of (Some R8) /d' \
     "$private_effects: R8: effect_of has no clause for it, but it is in rows_ask of $private_rows"
 refuses "a row that asks nothing known" $private_rows '/(R8, /d' \
     "$private_rows: R8: is not in rows_ask, but $private_effects has a clause for it"
@@ -196,7 +196,7 @@ refuses "a plain word that means something else" $private_asking '/^in_state n f
     "$private_asking: in_state: cannot read it, since it is defined in another way"
 refuses "causes that are compared in another way" crates/group_rows/specs/Causes.antt '/^same_cause c d/s/cause_number d/cause_number c/' \
     "crates/group_rows/specs/Causes.antt: same_cause: cannot read it, since it is defined in another way"
-refuses "a way for which there is no arrow" $private_effects '/^effect_of R8 /s/State.P3 tfp3/State.P0 no_timer/' \
+refuses "a way for which there is no arrow" $private_effects '/^effect_of (Some R8) /s/State.P3 tfp3/State.P0 no_timer/' \
     "host/pictures/private-call.layout: no arrow from P2 to P0, where R8 leads"
 refuses "an arrow through a text" host/pictures/group-call.layout 's/^arrow S1 S3 .*/arrow S1 S3 230,76 230,424/' \
     "host/pictures/group-call.layout: the arrow S1 to S3 runs through the label of the arrow S1 to S3"
@@ -233,7 +233,7 @@ refuses "a store that means something else" $private_carried '/^held_of Hold.Med
 refuses "a fact that means something else" $private_causes 's/= i.verdicts.media;/= i.verdicts.signature;/' \
     "${words%.words}.meanings: no definition reads 'media_verdict = i.verdicts.media'"
 refuses "a message that is not heard" $private_causes '/^message_cause own (Ringing /s/RingingHeard/Other/' "$words: cause RingingHeard: no definition has it"
-refuses "a message that is another one" $private_carried '/^sent_of s Say.Ringing /s/(Ringing /(Accept /' \
+refuses "a message that is another one" $private_carried '/^sent_of s (Some Say.Ringing) /s/(Ringing /(Accept /' \
     "$words: say Ringing: is called 'RINGING', but means 'ACCEPT'"
 
 # One case: these words are no way to call it.

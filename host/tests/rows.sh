@@ -59,15 +59,15 @@ notices() {
     wrong="$wrong$(diff $page "$room/tree/$page" | grep '^[<>]' | grep -v "^[<>] | $4 | ")"
     verdict "drawn: $1" "$wrong"
 }
-notices "a row that enters another state" $private_effects '/^effect_of R20 /s/State.P5 tfp4/State.P4 tfp5/' R20 \
+notices "a row that enters another state" $private_effects '/^effect_of (Some R20) /s/State.P5 tfp4/State.P4 tfp5/' R20 \
     '| *TFP7* in P1 | TFP5 | - | - | all fields of the message | 03 ACCEPT | P4 |'
 notices "a row that leaves its state, and so stops what runs" $private_effects \
-    '/^effect_of R29 /s/stays state Hold.Keep/enters State.P3 tfp3 Hold.Keep/' R29 '| *TFP5* | TFP3 | - | CFP3 1 | - | 07 ACCEPT ACK | P3 |'
-notices "a counter that is not raised" $private_effects '/^effect_of R2 /s/repeats state tfp1/turns state no_timer tfp1/' R2 '| CFP1 1 |'
-notices "a timer that is not stopped" $group_effects '/^effect_of G11 /s/restarts state tfg2 Hold.LaterChange/starts state tfg2 Say.Nothing/' G11 \
+    '/^effect_of (Some R29) /s/stays state Hold.Keep/enters State.P3 tfp3 Hold.Keep/' R29 '| *TFP5* | TFP3 | - | CFP3 1 | - | 07 ACCEPT ACK | P3 |'
+notices "a counter that is not raised" $private_effects '/^effect_of (Some R2) /s/repeats state tfp1/turns state no_timer tfp1/' R2 '| CFP1 1 |'
+notices "a timer that is not stopped" $group_effects '/^effect_of (Some G11) /s/restarts state tfg2 Hold.LaterChange/starts state tfg2 None/' G11 \
     '| - | TFG2 anew | TFG6 | - | - | stays in S3 |'
-notices "a message with another reason" $private_effects '/^effect_of R26 /s/Reason.Failed/Reason.Reject/' R26 '| 04 REJECT, REJECT/F | P1 |'
-notices "a message that does not hang on confirm" $group_effects '/^effect_of G4 /s/(confirms confirm)/Say.Accept/' G4 '| 09 GROUP ACCEPT with own as sender | S3 |'
+notices "a message with another reason" $private_effects '/^effect_of (Some R26) /s/Reason.Failed/Reason.Reject/' R26 '| 04 REJECT, REJECT/F | P1 |'
+notices "a message that does not hang on confirm" $group_effects '/^effect_of (Some G4) /s/(confirms confirm)/(Some Say.Accept)/' G4 '| 09 GROUP ACCEPT with own as sender | S3 |'
 notices "a row that is met in one state less" $private/Rows.antt \
     's/(R13, (in_state 3 f || (in_state 4 f || in_state 5 f))/(R13, (in_state 4 f || in_state 5 f)/' R13 \
     '| P4, P5 | 05 RELEASE same | *TFP5* in P4, *TFP2* or *TFP4* in P5 | *TFP7* | - | *CFP4 0* in P5 |'
@@ -94,15 +94,15 @@ refuses() {
     judge_refusal "refused: $1" $? "rows: $4"
     [ "$2" = $page ] || cmp -s $page "$room/tree/$page" || verdict "nothing is written where a definition cannot be read" "it is"
 }
-refuses "a verb that is not defined" $private_effects '/^effect_of R8 /s/enters/jumps/' \
+refuses "a verb that is not defined" $private_effects '/^effect_of (Some R8) /s/enters/jumps/' \
     "$private_effects: R8: cannot read 'jumps State.P3 tfp3 Hold.Keep Say.Release'"
-refuses "timers that do not run in the state entered" $private_effects '/^effect_of R20 /s/tfp4/tfp5/' \
+refuses "timers that do not run in the state entered" $private_effects '/^effect_of (Some R20) /s/tfp4/tfp5/' \
     "$private_effects: R20: leads to P5 with timers that do not run there: 'TFP5'"
-refuses "a row that does nothing known" $group_effects '/^effect_of G8 /d' \
+refuses "a row that does nothing known" $group_effects '/^effect_of (Some G8) /d' \
     "$group_effects: G8: effect_of has no clause for it, but it is in rows_ask of $group/Rows.antt"
 refuses "a fact without a word" $private/Rows.antt '/(R5, /s/media_verdict/media/' \
     "$private/Rows.antt: R5: host/rows/private-call.words has no word for the fact media"
-refuses "a message without a word" $group_effects '/^effect_of G6 /s/Say.Nothing/Say.Probe/' \
+refuses "a message without a word" $group_effects '/^effect_of (Some G6) /s/None$/(Some Say.Probe)/' \
     "$group_effects: G6: host/rows/group-call.words has no word for the say Probe"
 refuses "a row that is not met by the same events in each of its states" $group/Rows.antt \
     '/(G7, /s/(G7, .*)$/(G7, (in_state 4 f \&\& same_cause c Cause.UserRejects) || (in_state 5 f \&\& expires GroupTimer.Tfg4 f c))/' \
@@ -118,7 +118,7 @@ refuses "a store that means something else" crates/group_call/specs/Carried.antt
 refuses "a clause that is not quoted" $private_carried '/^held_of Hold.Keep /i held_of hold stored r media = stored' \
     "host/rows/private-call.rules: held_of: is not quoted whole"
 refuses "two causes with one number" $group/Causes.antt '/^cause_number Cause.UserLeaves /s/3/2/' "$group/Causes.antt: cause_number: gives 2 twice"
-refuses "a row with another's number" $private/Rows.antt '/^row_number R1 /s/1$/9/' "$private/Rows.antt: row_number: gives 9 to R1"
+refuses "a row with another's number" $private/Rows.antt '/^row_number (Some R1) /s/1$/9/' "$private/Rows.antt: row_number: gives 9 to R1"
 refuses "a set that has another timer than its name says" crates/group_record/specs/States.antt '/^tfg6 /s/true/false/' \
     "crates/group_record/specs/States.antt: tfg6: has not this timer alone"
 refuses "a page without a place for a table" $page '/^<!-- drawn by host\/rows.sh: group/d' \
@@ -137,9 +137,9 @@ while read -r name file by; do
     cp "$file" "$room/tree/$file"
     verdict "noticed: another $name of $file" "$([ $ended -ne 0 ] || echo "it is not")"
 done <<'CHANGES'
-stopped_of private_call/Carried /^stopped_of /s/is_stopped/runs_after/
-running_after private_call/Carried /^running_after /s/runs_after/is_stopped/
-timer_facts private_call/Carried s/stop_asked = has x.stop_asked t/stop_asked = has x.ran_out t/
+stopped_of call/Timing /^stopped_of /s/is_stopped/runs_after/
+running_after call/Timing /^running_after /s/runs_after/is_stopped/
+timer_facts call/Timing s/stop_asked = has x.stop_asked t/stop_asked = has x.ran_out t/
 started_of private_call/Carried s/tfp5 = start.tfp5;/tfp5 = start.tfp4;/
 started_of private_call/Carried s/^started_of state to start/started_of to state start/
 started_by private_call/Carried /^started_by /s/x.to/state/
@@ -155,17 +155,15 @@ timer_cause private_rows/Causes /^timer_cause (Timer.Group t)/s/Other/Tfp1Expire
 cause_of private_rows/Causes /^cause_of s (Event.Message m)/s/own_user/own_group/
 same_of private_rows/Causes /^same_of (Event.Action a)/s/false/true/
 cause_number private_rows/Causes /^cause_number Cause.Other /s/17/0/
-row_in private_rows/Rows /^row_in /s/first_met Discard/first_met R1/
+row_in private_rows/Rows /^row_in /s/first_met .*/None/
 row_of private_rows/Rows /^row_of /s/p.counters/s.limits/
 phase_of private_record/Phases /^phase_of /s/p.running/no_timer/
 has private_record/Phases /^has w PrivateTimer.Tfp7 /s/tfp7/tfp5/
 no_call private_record/Formed /^no_call /s/commencement = 0/commencement = 1/
-first_met call/Meeting /^first_met none (row/s/row.1 row.0 (first_met none rows)/row.1 (first_met none rows) row.0/
+first_met call/Meeting /^first_met (row/s/row.1 (Some row.0) (first_met rows)/row.1 (first_met rows) (Some row.0)/
 restricted call/Settings /^restricted /s/restrict$/acknowledgement/
 private_request call/Request s/commencement = commencement; call_type = private_type/commencement = 0; call_type = private_type/
-stopped_of group_call/Carried /^stopped_of /s/is_stopped/runs_after/
-running_after group_call/Carried /^running_after /s/runs_after/is_stopped/
-timer_facts group_call/Carried s/started = has x.started t/started = has x.stop_asked t/
+timer_facts call/Timing s/started = has x.started t/started = has x.stop_asked t/
 carry_out group_call/Carried s/(announced_of s i.event).confirm 1/(announced_of s i.event).confirm 0/
 message_cause group_rows/Causes /^message_cause own (GroupAccept a)/s/Other/AnnouncementHeard/
 group_action_cause group_rows/Causes /^group_action_cause GroupAction.Leave /s/UserLeaves/UserRejects/
@@ -173,7 +171,7 @@ action_cause group_rows/Causes /^action_cause (Action.Private a)/s/Other/UserSta
 group_timer_cause group_rows/Causes /^group_timer_cause GroupTimer.Tfg2 /s/Tfg2Expires/Tfg6Expires/
 timer_cause group_rows/Causes /^timer_cause (Timer.Private t)/s/Other/Tfg2Expires/
 cause_of group_rows/Causes /^cause_of s (Event.Message m)/s/own_group/own_user/
-row_in group_rows/Rows /^row_in /s/first_met Discard/first_met G1/
+row_in group_rows/Rows /^row_in /s/first_met .*/None/
 row_of group_rows/Rows /^row_of /s/(announced_of s e).call/g.call/
 group_action_announced call/Announced /^group_action_announced s (GroupAction.Start x)/s/confirm = x.confirm/confirm = 0/
 CHANGES

@@ -22,13 +22,11 @@ use Rattle.stepping.specs.Numbers.{heard_good, arguments_good}
 use Rattle.stepping.specs.Sending.{line_sent}
 use Rattle.private_record.specs.declared.states.Phase.{Phase}
 use Rattle.private_rows.specs.Rows as Rows
-use Rattle.private_rows.specs.declared.Row.TheVariants as PrivateRow
 use Rattle.private_rows.specs.declared.causes.Cause.{Cause}
 use Rattle.private_rows.specs.declared.causes.Facts.{Facts}
 use Rattle.private_call.proofs.Steps as private
 use Rattle.group_record.specs.declared.states.State.{State}
 use Rattle.group_rows.specs.Rows as GroupRows
-use Rattle.group_rows.specs.declared.Row.TheVariants as GroupRow
 use Rattle.group_rows.specs.declared.causes.Cause as GroupCause
 use Rattle.group_rows.specs.declared.causes.Facts as GroupFacts
 use Rattle.group_call.proofs.Steps as group
@@ -89,13 +87,13 @@ every test [] = true
 every test (row ∷ rows) = test row.0 && every test rows
 
 -- then the row that is met passes it
-met-passes : {Row : Type 0} (test : Row → Bool) (none : Row) (rows : List (Row × Bool)) → test none ≡ true → every test rows ≡ true
-    → test (first_met none rows) ≡ true
-met-passes test none [] n e = n
-met-passes test none (row ∷ rows) n e =
-    let p = and_split (test row.0) (every test rows) e in go row.1 p.0 (met-passes test none rows n p.1)
+met-passes : {Row : Type 0} (test : Option Row → Bool) (rows : List (Row × Bool)) → test None ≡ true → every (λ row. test (Some row)) rows ≡ true
+    → test (first_met rows) ≡ true
+met-passes test [] n e = n
+met-passes test (row ∷ rows) n e =
+    let p = and_split (test (Some row.0)) (every (λ row. test (Some row)) rows) e in go row.1 p.0 (met-passes test rows n p.1)
   where
-    go : (b : Bool) → test row.0 ≡ true → test (first_met none rows) ≡ true → test (cond b row.0 (first_met none rows)) ≡ true
+    go : (b : Bool) → test (Some row.0) ≡ true → test (first_met rows) ≡ true → test (cond b (Some row.0) (first_met rows)) ≡ true
     go true x y = x
     go false x y = y
 
@@ -111,7 +109,7 @@ known-rows M last kept carries known s p i out = go (eqb (M.step s p i out).numb
 -- the private rows are R1 to R29
 private-row : (f : Phase) (c : Cause) (x : Facts) → Rows.row_number (Rows.row_in f c x) ≤ last_private_row
 unfolding Rows.row_in
-private-row f c x = leb-true _ last_private_row (met-passes (λ row. leb (Rows.row_number row) last_private_row) PrivateRow.Discard (Rows.rows_ask f c x) refl refl)
+private-row f c x = leb-true _ last_private_row (met-passes (λ row. leb (Rows.row_number row) last_private_row) (Rows.rows_ask f c x) refl refl)
 
 -- the private call machine tells no other row
 pub private-known-rows : KnownRows private_machine last_private_row
@@ -120,7 +118,7 @@ private-known-rows = known-rows private_machine last_private_row step-nothing-ch
 -- the group rows are G1 to G11
 group-row : (f : State) (c : GroupCause.Cause) (x : GroupFacts.Facts) → GroupRows.row_number (GroupRows.row_in f c x) ≤ last_group_row
 unfolding GroupRows.row_in
-group-row f c x = leb-true _ last_group_row (met-passes (λ row. leb (GroupRows.row_number row) last_group_row) GroupRow.Discard (GroupRows.rows_ask f c x) refl refl)
+group-row f c x = leb-true _ last_group_row (met-passes (λ row. leb (GroupRows.row_number row) last_group_row) (GroupRows.rows_ask f c x) refl refl)
 
 -- the group call machine tells no other row
 pub group-known-rows : KnownRows group_machine last_group_row

@@ -1,5 +1,5 @@
 -- From every well-formed record of the group call machine some input is heeded, and it never stands still. Assumes nothing.
-use Rattle.std.specs.Prelude.{Some}
+use Rattle.std.specs.Prelude.{Some, Option}
 use mathlib.Core.Path.{◌≡◌, refl, sym, ap, ◌∙◌, subst}
 use mathlib.Core.Bool.{Bool, true, false}
 use Prim.Native.Nat.{ℕ, ◌≤◌}
@@ -21,7 +21,7 @@ use Rattle.group_record.specs.declared.states.State.{State}
 use Rattle.group_record.specs.declared.states.GroupRecord.{GroupRecord}
 use Rattle.group_rows.specs.Causes.{cause_of, facts_of}
 use Rattle.group_rows.specs.Rows.{row_number, row_in, row_of}
-use Rattle.group_rows.specs.Found.{at_of, found_at}
+use Rattle.group_rows.specs.Found.{found_at}
 use Rattle.group_rows.specs.declared.Row.{Row}
 use Rattle.group_rows.specs.declared.Row.TheVariants.{G1, G7, G8}
 use Rattle.group_rows.proofs.Meets.{found-is-met}
@@ -41,15 +41,15 @@ use Rattle.group_record.specs.declared.states.Timers.{Timers}
 -- ---- what is heeded
 
 -- the row that an input meets from a record, if the record is in this state
-abbrev row_found : Settings → GroupRecord → Input → State → Row
-row_found s g i f = found_at (at_of f) (cause_of s i.event) (facts_of s g.call (announced_of s i.event).call)
+abbrev row_found : Settings → GroupRecord → Input → State → Option Row
+row_found s g i f = found_at f (cause_of s i.event) (facts_of s g.call (announced_of s i.event).call)
 
 -- whether the announcement that it brings asks for confirm
 abbrev confirms : Settings → Input → Bool
 confirms s i = eqb (announced_of s i.event).confirm 1
 
 -- an input that is not refused and meets a row to another state is heeded
-heeded : (s : Settings) (g : GroupRecord) (i : Input) (f : State) (row : Row) → Taken s (is_well_formed s g) i → g.state ≡ f
+heeded : (s : Settings) (g : GroupRecord) (i : Input) (f : State) (row : Option Row) → Taken s (is_well_formed s g) i → g.state ≡ f
     → row_found s g i f ≡ row → change_too_early s g i.event row ≡ false → 1 ≤ row_number row → changes f (effect_of row f (confirms s i)).to ≡ true
     → IsHeeded group_machine s g i
 unfolding carry_out
@@ -89,7 +89,7 @@ module _ (s : Settings) (g : GroupRecord) (h : settings_good s ≡ true) (w : is
   SomeHeeded = (i : Input) × IsHeeded group_machine s g i
 
   -- this action of the user is, where its arguments are good and it meets this row
-  by_row : (a : GroupAction) (f : State) (row : Row) → let i = does_in_group a in
+  by_row : (a : GroupAction) (f : State) (row : Option Row) → let i = does_in_group a in
       arguments_good s i.event i.media ≡ true → g.state ≡ f → row_found s g i f ≡ row → change_too_early s g i.event row ≡ false
       → 1 ≤ row_number row → changes f (effect_of row f (confirms s i)).to ≡ true → SomeHeeded
   by_row a f row b e r n k c = (does_in_group a, heeded s g (does_in_group a) f row (record { settings = h; formed = w; message = refl; arguments = b }) e r n k c)

@@ -34,6 +34,7 @@ use Rattle.group_call.proofs.Steps.{keeps-well-formed}
 use Rattle.group_call.proofs.Unheeded.{other-discarded}
 use Rattle.group_call.proofs.Merging.{ongoing-is, merged, better-joined, not-better-discarded, same-refreshed}
 use Rattle.demands.specs.SameCall.{Call, call_of, Announcing, InCall, Unsent}
+use Rattle.group_record.specs.declared.states.Timers.{Timers}
 
 -- a line announces a call of the own group
 abbrev pub Brings : Settings → List ℕ → Call → Type 0

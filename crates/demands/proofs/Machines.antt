@@ -1,6 +1,6 @@
 -- What is asked of the steps of every call machine, proved of the private one. Assumes nothing.
 use Rattle.std.specs.Prelude.{Option}
-use mathlib.Core.Path.{sym, ap, ◌∙◌, subst}
+use mathlib.Core.Path.{sym, ◌∙◌, subst}
 use Rattle.frame.specs.declared.Message.{Message}
 use Rattle.stepping.proofs.Stepping.{SentGood}
 use Rattle.private_call.specs.Step.{done_of}

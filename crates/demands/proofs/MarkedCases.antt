@@ -26,7 +26,8 @@ use Rattle.private_record.specs.declared.states.Phase.{Phase}
 use Rattle.private_record.specs.declared.states.Timers.{Timers}
 use Rattle.private_record.proofs.WellFormed.{fit}
 use Rattle.private_rows.specs.Rows.{row_in}
-use Rattle.private_call.specs.Carried.{started_of, stopped_of, running_after, counters_after, carry_out}
+use Rattle.call.specs.Timing.{stopped_of, running_after}
+use Rattle.private_call.specs.Carried.{started_of, counters_after, carry_out}
 use Rattle.private_call.specs.Step.{step_of}
 use Rattle.stepping.specs.Answer.{Answer}
 use Rattle.private_call.proofs.MarkedSteps.{expiry-discarded, second-accept, last-expiry}
@@ -38,7 +39,7 @@ use Rattle.group_rows.specs.Rows as GroupRows
 use Rattle.group_call.specs.Carried as GroupCarried
 use Rattle.group_call.specs.Step as GroupStep
 use Rattle.group_call.specs.Hearing.{hears}
-use Rattle.group_call.specs.declared.Stepped as GroupStepped
+use Rattle.group_record.specs.declared.states.Timers as GroupTimers
 use Rattle.group_call.proofs.Merging.{ongoing-is, better-joined}
 use Rattle.chooser.specs.Choice.{choice_of, choice_number}
 use Rattle.demands.specs.Machines.{Machine, private_machine, group_machine}
@@ -63,16 +64,12 @@ by_length {m} {media} {room} h =
     writing-holds (λ out e.
     ap (λ (k : ℕ). first_given ((5, not (in_range m media)) ∷ (6, ltb k (length (line_of m media))) ∷ [])) (e ∙ sym (length-replicate room 0)) ∙ h)
 
--- two answers of the private call machine that are one, and what else is told of them
-answers : {x y : (Answer PrivateRecord Timers)} {A : Type 0} → (x ≡ y) × A → (private_answer x ≡ private_answer y) × A
-answers k = (k.0, k.1)
-
 -- a timer that does not run in a state, whatever runs there: its expiry is discarded
 quiet : {state : State} {timer : PrivateTimer} → ((w : Timers) → has (running_of (phase_in state w)) timer ≡ false) → Holds (expiry_discarded state timer)
 quiet {state} {timer} h =
     expiry-discarded-holds (λ s p media v out g w e.
     let runs = (fit s p w).running ∙ ap (λ (x : State). running_of (phase_in x p.running)) e in
-    answers (expiry-discarded s p timer media v out g w (ap (λ (x : Timers). has x timer) runs ∙ h p.running)))
+    expiry-discarded s p timer media v out g w (ap (λ (x : Timers). has x timer) runs ∙ h p.running))
 
 -- case E, for a record
 step-E : Holds (steps private_machine (crew_with false 1) (stored Phase.P2Tfp1 (cfp1_at 1) ours) (expires PrivateTimer.Tfp1) [] 0 3)
@@ -97,7 +94,7 @@ better-joins {type} {other} better =
     let w' = subst (λ (x : GroupRecord). GroupFormed.is_well_formed s x ≡ true) is w in
     let rank : rank_of call.call_type < rank_of g.call.call_type = rw (heard, stored) better in
     let step = better-joined s g.call g.media call confirm media v out h w' r (eq-eqb _ _ own) (ne_eqb _ _ f) (by_rank call g.call rank) in
-    ap (λ (x : GroupRecord). (GroupStep.step_of s x (hears call confirm media v) out).row) is ∙ ap (λ (x : GroupStepped.Stepped). x.row) step.0)
+    ap (λ (x : GroupRecord). (GroupStep.step_of s x (hears call confirm media v) out).row) is ∙ ap (λ (x : Answer GroupRecord GroupTimers.Timers). x.row) step.0)
 
 -- case H, for a record
 step-H : Holds (steps group_machine crew (goes_on (mine 1)) (announces (heard 2) 0) [] 0 10)
@@ -140,4 +137,4 @@ group-L = step-holds refl refl
 pub marked-cases : AllHold table
 unfolding below AllHold table ringing read_line refusal_of message_at media_at numbers_at number_at digits_of all_digits in_range parties_good setup_good group_call_good acceptance_good write_number line_of frame_in_hex all_in_hex in_hex choice_number choice_of
 marked-cases =
-    (reading-holds refl, (everywhere refl, (reading-holds refl, (reading-holds refl, (last-expiry-holds last-expiry, (step-E, (second-discarded-holds (λ s p media media' v v' out out' e. answers (second-accept s p media media' v v' out out' e)), (step-F, (quiet (λ w. refl), (step-G, (better-joins (omega arith), (step-H, (lower-wins (omega arith), (choosing-holds refl refl, (choosing-holds refl refl, (rank-wins (omega arith), (choosing-holds refl refl, (by_length refl, (by_length refl, (reading-holds refl, (by_length refl, (private-L, (group-L, (reading-holds refl, (by_length refl, (five-heard private_machine step-exactly-when refl, (five-heard group_machine group-step-exactly-when refl, tt)))))))))))))))))))))))))))
+    (reading-holds refl, (everywhere refl, (reading-holds refl, (reading-holds refl, (last-expiry-holds last-expiry, (step-E, (second-discarded-holds (λ s p media media' v v' out out' e. second-accept s p media media' v v' out out' e), (step-F, (quiet (λ w. refl), (step-G, (better-joins (omega arith), (step-H, (lower-wins (omega arith), (choosing-holds refl refl, (choosing-holds refl refl, (rank-wins (omega arith), (choosing-holds refl refl, (by_length refl, (by_length refl, (reading-holds refl, (by_length refl, (private-L, (group-L, (reading-holds refl, (by_length refl, (five-heard private_machine step-exactly-when refl, (five-heard group_machine group-step-exactly-when refl, tt)))))))))))))))))))))))))))

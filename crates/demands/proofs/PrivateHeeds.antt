@@ -1,5 +1,5 @@
 -- From every well-formed record of the private call machine some input is heeded, and it never stands still. Assumes nothing.
-use Rattle.std.specs.Prelude.{Some}
+use Rattle.std.specs.Prelude.{Some, Option}
 use mathlib.Core.Path.{◌≡◌, refl, sym, ap, ◌∙◌, subst}
 use mathlib.Core.Bool.{Bool, true, false, cond, true≢false}
 use Prim.Native.Nat.{ℕ, ◌≤◌}
@@ -26,7 +26,7 @@ use Rattle.private_record.specs.declared.states.PrivateRecord.{PrivateRecord}
 use Rattle.private_record.proofs.WellFormed.{fit}
 use Rattle.private_rows.specs.Causes.{cause_of, facts_of}
 use Rattle.private_rows.specs.Rows.{row_number, row_in, row_of}
-use Rattle.private_rows.specs.Found.{at_of, found_at}
+use Rattle.private_rows.specs.Found.{found_at}
 use Rattle.private_rows.specs.declared.Row.{Row}
 use Rattle.private_rows.specs.declared.Row.TheVariants.{R1, R8, R9, R13, R25, R28}
 use Rattle.private_rows.proofs.Meets.{found-is-met}
@@ -49,11 +49,11 @@ use Rattle.private_record.specs.declared.states.Timers.{Timers}
 -- ---- what is heeded
 
 -- the row that an input meets from a record, if the record is in this phase
-abbrev row_found : Settings → PrivateRecord → Input → Phase → Row
-row_found s p i f = found_at (at_of f) (cause_of s i.event) (facts_of s f p.counters p.call i)
+abbrev row_found : Settings → PrivateRecord → Input → Phase → Option Row
+row_found s p i f = found_at f (cause_of s i.event) (facts_of s f p.counters p.call i)
 
 -- an input that is not refused and meets a row to another state is heeded
-heeded : (s : Settings) (p : PrivateRecord) (i : Input) (f : Phase) (row : Row) → Taken s (is_well_formed s p) i → phase_of p ≡ f → row_found s p i f ≡ row
+heeded : (s : Settings) (p : PrivateRecord) (i : Input) (f : Phase) (row : Option Row) → Taken s (is_well_formed s p) i → phase_of p ≡ f → row_found s p i f ≡ row
     → identifier_taken s p i.event row ≡ false → 1 ≤ row_number row → changes (state_of f) (effect_of row (state_of f)).to ≡ true → IsHeeded private_machine s p i
 unfolding carry_out
 heeded s p i f row t q r n h c =
@@ -125,7 +125,7 @@ module _ (s : Settings) (p : PrivateRecord) (g : settings_good s ≡ true) (w : 
   SomeHeeded = (i : Input) × IsHeeded private_machine s p i
 
   -- this input is, where its fields and arguments are good and it meets this row
-  by_row : (i : Input) (f : Phase) (row : Row) → heard_good i.event i.media ≡ true → arguments_good s i.event i.media ≡ true → phase_of p ≡ f
+  by_row : (i : Input) (f : Phase) (row : Option Row) → heard_good i.event i.media ≡ true → arguments_good s i.event i.media ≡ true → phase_of p ≡ f
       → row_found s p i f ≡ row → identifier_taken s p i.event row ≡ false → 1 ≤ row_number row → changes (state_of f) (effect_of row (state_of f)).to ≡ true
       → SomeHeeded
   by_row i f row h a q r n k c = (i, heeded s p i f row (record { settings = g; formed = w; message = h; arguments = a }) q r n k c)

@@ -7,7 +7,8 @@ use Rattle.writer.specs.Writing.{write_number}
 use Rattle.call.specs.Settings.{settings_good}
 use Rattle.private_record.specs.Formed.{is_well_formed}
 use Rattle.private_rows.specs.Rows.{row_in}
-use Rattle.private_call.specs.Carried.{started_of, stopped_of, running_after, counters_after, carry_out}
+use Rattle.call.specs.Timing.{stopped_of, running_after}
+use Rattle.private_call.specs.Carried.{started_of, counters_after, carry_out}
 use Rattle.private_call.specs.Step.{step_of, step_buffer}
 use Rattle.demands.specs.Machines.{private_machine}
 use Rattle.demands.specs.Played.{crew}

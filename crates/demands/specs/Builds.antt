@@ -4,8 +4,6 @@ use Rattle.frame.specs.Layout.{longest_line}
 use Rattle.call.specs.Settings.{settings_good}
 use Rattle.call.specs.declared.Settings.{Settings}
 use Rattle.call.specs.declared.Input.{Input}
-use Rattle.group_record.specs.declared.states.Timers.{Timers}
-use Rattle.group_record.specs.declared.states.GroupRecord.{GroupRecord}
 use Rattle.group_call.specs.Hearing.{Build}
 use Rattle.stepping.specs.Answer.{Answer}
 use Rattle.demands.specs.Machines.{Machine, group_machine}

@@ -8,7 +8,7 @@ use Rattle.call.specs.declared.Event.{Event}
 use Rattle.call.specs.declared.Input.{Input}
 use Rattle.stepping.specs.Numbers.{number_of_tests, number_sending}
 use Rattle.stepping.specs.Sending.{line_sent}
-use Rattle.stepping.specs.Answer.{Answer, answer_by}
+use Rattle.stepping.specs.Answer.{Answer, refused_with, answer_by}
 use Rattle.stepping.specs.declared.Carried.{Carried}
 use Rattle.stepping.specs.declared.Stepped.{Stepped}
 use Rattle.group_record.specs.States.{no_timer}
@@ -45,7 +45,7 @@ answer_told = answer_by row_number no_timer
 
 -- a refusal: the record as it was, row 0, no timer, length 0
 abbrev pub refused_of : ℕ → GroupRecord → Answer GroupRecord Timers
-refused_of number g = record { number = number; row = 0; next = g; stop = no_timer; start = no_timer; length = 0 }
+refused_of number g = refused_with no_timer g number
 
 -- a discard is what a refusal is, with number 0
 abbrev pub discarded : GroupRecord → Answer GroupRecord Timers

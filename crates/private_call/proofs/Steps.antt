@@ -49,7 +49,7 @@ module _ (s : Settings) (p : PrivateRecord) (i : Input) where
   pub answer-of-row : (row_number (row_of s p i) ≡ 0 → ⊥) → answer_met s p i ≡ moved
   answer-of-row f = rw (ne_eqb (row_number (row_of s p i)) 0 f) refl
 
-  -- so is that of whatever row is met from a well-formed record, be it None
+  -- so it is from a well-formed record, whether a row is met or not
   answer-moved : is_well_formed s p ≡ true → answer_met s p i ≡ moved
   answer-moved w = go (eqb (row_number (row_of s p i)) 0) refl
     where
@@ -60,7 +60,7 @@ module _ (s : Settings) (p : PrivateRecord) (i : Input) where
           let d = carried-nothing s p i (fit s p w) r in
           sym (λ j. moved_of (r j) (d j) (length (line_sent (d j).sent (d j).next.call.media)))
 
-  -- the buffer is what the number and the line leave, be the row None
+  -- the buffer is what the number and the line leave, whether a row is met or not
   pub buffer_lent : (out : List ℕ) → step_buffer s p i out ≡ lent_after (step_number s p i out) (step_line s p i) out
   unfolding step_buffer
   buffer_lent out = go (eqb (row_number (row_of s p i)) 0) refl

@@ -5,7 +5,7 @@ use Rattle.frame.specs.declared.Parties.{Parties}
 use Rattle.frame.specs.declared.Message.TheVariants.{Ringing, Accept, Reject, Release, ReleaseAck, AcceptAck}
 use Rattle.call.specs.Settings.{restricted}
 use Rattle.call.specs.Request.{as_message, request_of}
-use Rattle.call.specs.Timing.{stopped_of, running_after}
+unfoldable pub use Rattle.call.specs.Timing.{stopped_of, running_after}
 use Rattle.call.specs.declared.Counters.{Counters}
 use Rattle.call.specs.declared.Settings.{Settings}
 use Rattle.call.specs.declared.PrivateTimer.{PrivateTimer}

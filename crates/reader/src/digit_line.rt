@@ -9,7 +9,7 @@ use crate::digits::one_at;
 use crate::table::all_digits;
 use frame::{Kind, Refusal};
 
-// A line that is ended, of digits, and as long as its kind has them.
+// A line that has digits ahead of its last byte, as many as its kind has.
 #[derive(Clone, Copy)]
 pub(crate) struct DigitLine<'a> {
     pub(crate) bytes: &'a [u8],

@@ -20,7 +20,7 @@ use Rattle.chooser.specs.declared.Winner.{Winner}
 use Rattle.chooser.specs.declared.Winner.TheVariants.{First, Second}
 
 -- what has a way back from what is told of it is known by that
-pub known : {A B : Type 0} (told : A → B) (back : B → A) → ((a : A) → back (told a) ≡ a) → (a b : A) → told a ≡ told b → a ≡ b
+known : {A B : Type 0} (told : A → B) (back : B → A) → ((a : A) → back (told a) ≡ a) → (a b : A) → told a ≡ told b → a ≡ b
 known told back same a b e = sym (same a) ∙ ap back e ∙ same b
 
 -- ---- a reading

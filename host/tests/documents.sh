@@ -11,7 +11,7 @@ listed() { sed 's/#.*//' crates.txt | sed -nE 's/^[[:space:]]*([a-z0-9_]+)( stat
 archives() { sed -n 's/^\([a-z0-9_]*\) staticlib:.*/\1/p' crates.txt; }
 
 # The public functions of a library, CRATE::NAME, with the module ahead of the name and, where it is a method, the type: a method stands in
-# the module of its type, whichever file has it.
+# the module of its type, whichever file has it. The parameters of a generic type are left out.
 public_functions() {
     local crate
     for crate in $(listed); do
@@ -22,8 +22,8 @@ public_functions() {
                 gsub(/.*\/|\.rt$/, "", module)
                 path = module == "lib" ? crate : crate "::" module
             }
-            /^pub (struct|enum) / { place[$3] = path }
-            /^impl / { type = $2 }
+            /^pub (struct|enum) / { name = $3; sub(/[^A-Za-z].*/, "", name); place[name] = path }
+            /^impl[ <]/ { type = $0; sub(/^impl(<[^>]*>)? /, "", type); sub(/[^A-Za-z].*/, "", type) }
             /^}/ { type = "" }
             pass == 2 && /^ *pub (extern "C" )?fn / {
                 sub(/^ *pub (extern "C" )?fn /, "")
@@ -84,7 +84,7 @@ for name in $(public_functions); do
     # shellcheck disable=SC2086
     file=$(grep -l "^use Rattle\.$path\.Reads as " $one_answer)
     called=$(sed -n "s/^use Rattle\.$path\.Reads as //p" "${file:-/dev/null}")
-    theorem=$(sed -n "s/^pub \([a-z_-]*\) : .* OneAnswer (${called:-none}\.Asked κs) (${called:-none}\.Learnt κs) .*/\1/p" "${file:-/dev/null}")
+    theorem=$(sed -n "s/^ *pub \([a-z_-]*\) : .* OneAnswer (${called:-none}\.Asked\([A-Za-z_ ]*\)κs) (${called:-none}\.Learnt\2κs) .*/\1/p" "${file:-/dev/null}")
     [ -n "$theorem" ] && grep -qF "One answer: \`$theorem\`" docs/PROMISES.md || wrong="$wrong $name"
 done
 verdict "every public function has its theorem of one answer" "$wrong"

@@ -18,7 +18,7 @@ use Rattle.frame.specs.declared.Message.{Message}
 use Rattle.reader.specs.Line.{number_of, reading, refusal, read_line, line_number}
 use Rattle.reader.specs.Line.{Reading}
 use Rattle.reader.proofs.OnlyLine.{number_read}
-use Rattle.writer.specs.Lent.{Written}
+use Rattle.writer.specs.Lent.{Written, told_by}
 use Rattle.log_lines.specs.Lines.{lines_of}
 use Rattle.log_lines.proofs.Lines.{ended-cut, lines-are-the-only-ones}
 use Rattle.log_answer.specs.Answer.{answer_of, AllReadable}
@@ -27,15 +27,14 @@ use Rattle.log_answer.proofs.Parts.{readable-ended}
 use Rattle.call.specs.declared.Settings.{Settings}
 use Rattle.call.specs.declared.Input.{Input}
 use Rattle.stepping.specs.Sending.{line_sent}
+use Rattle.stepping.specs.Answer.{Answer}
+use Rattle.private_record.specs.declared.states.Timers.{Timers}
 use Rattle.private_record.specs.declared.states.PrivateRecord.{PrivateRecord}
 use Rattle.private_call.specs.Step.{step_of, step_buffer}
-use Rattle.private_call.specs.declared.Stepped.{Stepped}
-use Rattle.private_call.proofs.step.Reads as step
-use Rattle.chooser.specs.Choice.{choice_of, choice_number, place_of}
+use Rattle.chooser.specs.Choice.{chosen_number, choice_of, choice_number, place_of}
 use Rattle.group_record.specs.declared.states.GroupRecord.{GroupRecord}
 use Rattle.group_call.specs.Hearing.{HeardLine, Build, promised, hear_all}
-use Rattle.group_call.proofs.step.Reads as group-step
-use Rattle.demands.specs.Machines.{Machine, private_answer, private_machine, group_answer, group_machine}
+use Rattle.demands.specs.Machines.{Machine, private_machine, group_machine}
 use Rattle.demands.specs.ExactlyWhen.{ExactlyWhen, GivenExactlyWhen, write_table, send_table, answer_table}
 use Rattle.demands.specs.NothingChanges.{Done, NothingChanges}
 use Rattle.demands.specs.Consequences.{last_private_row, last_group_row}
@@ -44,7 +43,7 @@ use Rattle.demands.specs.SameCall.{Cab, call_of, Knows, Best, BestCall, SameCall
 use Rattle.demands.specs.BetterLine.{ByBetterCall}
 use Rattle.demands.proofs.ReadsBack.{reads_as}
 use Rattle.demands.proofs.Demands.{demand-1, demand-2, demand-3}
-use Rattle.promises.specs.OfContracts.{Promises, Lent, ToStep, OfStep, MayRead, MayHandBack, StepBuild, Obeys}
+use Rattle.promises.specs.OfContracts.{Promises, Lent, ToStep, OfStep, Tells, PrivateStepTells, GroupStepTells, MayRead, MayNumber, MayHandBack, StepBuild, Obeys}
 use Rattle.promises.specs.DemandsKept.{NamesLine, Demand1Kept, ByItsRow, as_build, BuildKeeps, Demand2Kept, end_by, Demand3Kept}
 use Rattle.promises.proofs.Allows.{check-line-allows, read-line-allows, write-line-allows, write-sent-allows, answer-log-allows, choose-number-allows, choice-allows, choose-allows, step-allows, group-step-allows}
 
@@ -52,6 +51,25 @@ use Rattle.promises.proofs.Allows.{check-line-allows, read-line-allows, write-li
 promise : {A R T : Type 0} {Learnt Promised : A → R → T → Type 0} → ((a : A) (r : R) (t : T) → Learnt a r t → Promised a r t) → ((a : A) → (r : R) × (t : T) × Learnt a r t)
     → Promises (λ a. Unit {0}) Learnt Promised
 promise so some = record { asks_nothing = λ a. tt; allows_some = some; and_so = so }
+
+-- so does one whose results are known by what they tell
+promise-told : {A R S T : Type 0} {told : A → R → S} {Learnt : A → R → T → Type 0} {Promised : A → S → T → Type 0} → ((a : A) (r : R) (t : T) → Learnt a r t → Promised a (told a r) t)
+    → ((a : A) → (r : R) × (t : T) × Learnt a r t) → Promises (λ a. Unit {0}) (Tells told Learnt) Promised
+promise-told {told = told} {Promised = Promised} so some =
+    promise (λ a s t x. subst (λ what. Promised a what t) x.tells (so a x.result t x.learnt))
+    (λ a. let (r, t, x) = some a in (told a r, t, record { result = r; tells = refl; learnt = x }))
+
+-- what a result that is allowed tells may be told
+tells-so : {A R S T : Type 0} {told : A → R → S} {Learnt : A → R → T → Type 0} {a : A} {t : T} (r : R) → Learnt a r t → Tells told Learnt a (told a r) t
+tells-so r x = record { result = r; tells = refl; learnt = x }
+
+-- a reading that the reader's contract allows is the reader's
+read-so : (κ : Lfts 1) (line : List ℕ) (answer : Reading) → MayRead κ line answer → answer ≡ read_line line
+read-so κ line answer may = sym may.3.tells ∙ may.3.learnt ∙ ap read_line may.2
+
+-- a number that the contract of `choose_number` allows is the question's
+number-so : (κ : Lfts 2) (first second : Lent) (number : ℕ) → MayNumber κ first second number → number ≡ choice_number first.now second.now
+number-so κ first second number may = sym may.1.tells ∙ may.1.learnt
 
 -- ---- demand 1
 
@@ -75,18 +93,18 @@ demand-1-kept =
     let n = demand-1.numbers in
     let k = demand-1.keeps in
     record {
-      by_check_line = λ κ. promise (λ a r t x. rw x (n.of_line _)) (check-line-allows κ);
-      by_read_line = λ κ. promise (λ a r t x.
+      by_check_line = λ κ. promise-told (λ a r t x. rw x (n.of_line _)) (check-line-allows κ);
+      by_read_line = λ κ. promise-told (λ a r t x.
           let e = number_read a.0.now in rw x (n.of_reading a.0.now, λ f. k.by_reading a.0.now (λ z. f (e ∙ z)) ∙ ap refusal (sym e))) (read-line-allows κ);
-      by_write_line = λ κ. promise (λ a r t x. rw (x.0, x.1.0) (n.of_writing _ _ _, k.by_writing _ _ _)) (write-line-allows κ);
-      by_write_sent = λ κ. promise (λ a r t x. rw (x.0, x.1) (n.of_sending a.0 a.1.0 a.1.1.0.now, k.by_sending a.0 a.1.0 a.1.1.0.now)) (write-sent-allows κ);
-      by_answer_log = λ κ. promise (λ a r t x. rw (x.0, x.1.0) (n.of_answering _ _, k.by_answering _ _)) (answer-log-allows κ);
-      by_choose_number = λ κ. promise (λ a r t x. rw x (n.of_choosing _ _)) (choose-number-allows κ);
-      by_choose = λ κ κn. promise (λ a r t x m y f. x ∙ k.by_choosing a.0 a.1.0 (λ z. f (y.1 ∙ z))) (choose-allows κ);
-      by_choice = λ κ κn. promise (λ a r t x m y. rw (x, y.1) (k.by_choice a.0.now a.1.0.now)) (choice-allows κ);
-      choice_names = λ κ κc. promise (λ a r t x line y. choice-names κc a.0 a.1.0 line r x y) (choice-allows κ);
-      by_private_step = λ κ. promise (λ a r t x. rw (x.0, x.1) (n.of_private_step _ _ _ _, k.by_private_step _ _ _ _)) (step-allows κ);
-      by_group_step = λ κ. promise (λ a r t x. rw (x.0, x.1) (n.of_group_step _ _ _ _, k.by_group_step _ _ _ _)) (group-step-allows κ);
+      by_write_line = λ κ. promise-told (λ a r t x. rw (x.0, x.1.0) (n.of_writing _ _ _, k.by_writing _ _ _)) (write-line-allows κ);
+      by_write_sent = λ κ. promise-told (λ a r t x. rw (x.0, x.1) (n.of_sending a.0 a.1.0 a.1.1.0.now, k.by_sending a.0 a.1.0 a.1.1.0.now)) (write-sent-allows κ);
+      by_answer_log = λ κ. promise-told (λ a r t x. rw (x.0, x.1.0) (n.of_answering _ _, k.by_answering _ _)) (answer-log-allows κ);
+      by_choose_number = λ κ. promise-told (λ a r t x. rw x (n.of_choosing _ _)) (choose-number-allows κ);
+      by_choose = λ κ κn. promise (λ a r t x m y f. x ∙ k.by_choosing a.0 a.1.0 (λ z. f (number-so κn a.0 a.1.0 m y ∙ z))) (choose-allows κ);
+      by_choice = λ κ κn. promise-told (λ a r t x m y. rw (x, number-so κn a.0 a.1.0 m y) (k.by_choice a.0.now a.1.0.now)) (choice-allows κ);
+      choice_names = λ κ κc. promise-told (λ a r t x line y. choice-names κc a.0 a.1.0 line (chosen_number r) x y) (choice-allows κ);
+      by_private_step = λ κ. promise-told (λ a r t x. rw (x.0, x.1) (n.of_private_step _ _ _ _, k.by_private_step _ _ _ _)) (step-allows κ);
+      by_group_step = λ κ. promise-told (λ a r t x. rw (x.0, x.1) (n.of_group_step _ _ _ _, k.by_group_step _ _ _ _)) (group-step-allows κ);
     }
 
 -- ---- demand 2
@@ -108,7 +126,7 @@ written-ranged m media out n g e = go (in_range m media) (g.exactly.1.1.0 e).0.1
 written-reads : (κ : Lfts 1) (m : Message) (media : Media) (lent after : List ℕ) (w : Written) → GivenExactlyWhen w.number (write_table m media lent)
     → NothingChanges (line_of m media) w lent after → w.number ≡ 0 → (back : Reading) → MayRead κ (take w.length after) back → back ≡ reading m (media_of (kind_of m) media)
 written-reads κ m media lent after w g d e back may =
-    may.3 ∙ ap read_line (may.2 ∙ front (line_of m media) _ _ _ (d.1 e)) ∙ reads_as m media (written-ranged m media lent w.number g e)
+    read-so κ _ back may ∙ ap read_line (front (line_of m media) _ _ _ (d.1 e)) ∙ reads_as m media (written-ranged m media lent w.number g e)
 
 -- a log that is one readable line is its own answer
 answer-one-line : (line : List ℕ) → line_number line ≡ 0 → answer_of line ≡ line
@@ -135,16 +153,17 @@ every Learnt c says P holds b obeys = subst P (λ j s p i out. same s p i out j)
         let h : c s p i lent.now ≡ b s p i out = λ j. (sym y.0 j, (sym y.1 ∙ f) j) in sym (ap (c s p i) e) ∙ h
 
 -- the build that the contract of the private step names
-abbrev private_promised : StepBuild PrivateRecord Stepped
+abbrev private_promised : StepBuild PrivateRecord (Answer PrivateRecord Timers)
 private_promised s p i out = (step_of s p i out, step_buffer s p i out)
 
 -- of the private step
-private-every : (κ : Lfts 1) (P : StepBuild PrivateRecord Stepped → Type 0) → P private_promised → (b : StepBuild PrivateRecord Stepped) → Obeys (step.Learnt κ) b → P b
-private-every κ = every (step.Learnt κ) private_promised (λ a r t x. x)
+private-every : (κ : Lfts 1) (P : StepBuild PrivateRecord (Answer PrivateRecord Timers) → Type 0) → P private_promised → (b : StepBuild PrivateRecord (Answer PrivateRecord Timers))
+    → Obeys (PrivateStepTells κ) b → P b
+private-every κ = every (PrivateStepTells κ) private_promised (λ a r t x. (sym x.tells ∙ x.learnt.0, x.learnt.1))
 
 -- of the group step
-group-every : (κ : Lfts 1) (P : Build → Type 0) → P promised → (b : Build) → Obeys (group-step.Learnt κ) b → P b
-group-every κ = every (group-step.Learnt κ) promised (λ a r t x. x)
+group-every : (κ : Lfts 1) (P : Build → Type 0) → P promised → (b : Build) → Obeys (GroupStepTells κ) b → P b
+group-every κ = every (GroupStepTells κ) promised (λ a r t x. (sym x.tells ∙ x.learnt.0, x.learnt.1))
 
 -- a step that is the machine's goes by its row
 by-its-row : (M : Machine) (last : ℕ) → ByTheRows M last → (s : Settings) (p : M.Stored) (i : Input) (out : List ℕ) → ByItsRow M last s p i out (M.step s p i out) (M.buffer s p i out)
@@ -153,7 +172,7 @@ by-its-row M last rows s p i out =
       row_holds = rows.rows_hold s p i out;
       carried_out = rows.carries_out s p i out;
       known_row = rows.known_rows s p i out;
-      reads_back = λ κr m back e sent may. may.3 ∙ (ap read_line may.2 ∙ rows.reads_back s p i out m e sent);
+      reads_back = λ κr m back e sent may. read-so κr _ back may ∙ rows.reads_back s p i out m e sent;
       clears = rows.clears s p i out;
     }
 
@@ -163,28 +182,33 @@ demand-2-kept =
     let n = demand-1.numbers in
     let k = demand-1.keeps in
     record {
-      one_line = λ κ. promise (λ a r t x. rw x (demand-2.one_line a.0.now)) (read-line-allows κ);
-      reads_back = λ κ κr. promise (λ a w t x e back may.
-          let (g, d) = (demand-1-kept.by_write_line κ).and_so a w t x in written-reads κr a.0 a.1.0 a.1.1.0.now t.1.1.0.now w g d e back may) (write-line-allows κ);
-      writes_back = λ κ κr. promise (λ a w t x e line may.
-          let (g, d) = (demand-1-kept.by_write_line κ).and_so a w t x in
-          front (line_of a.0 a.1.0) _ _ _ (d.1 e) ∙ sym ((demand-2.one_line line a.0 a.1.0).0 (ap read_line (sym may.2) ∙ sym may.3)).0) (write-line-allows κ);
-      sent_reads_back = λ κ κr. promise (λ a w t x m sent e back may.
+      one_line = λ κ. promise-told (λ a r t x. rw x (demand-2.one_line a.0.now)) (read-line-allows κ);
+      reads_back = λ κ κr. promise-told (λ a r t x e back may.
+          let w = told_by r in
+          let (g, d) = (demand-1-kept.by_write_line κ).and_so a w t (tells-so r x) in written-reads κr a.0.message a.0.media a.1.0.now t.1.0.now w g d e back may) (write-line-allows κ);
+      writes_back = λ κ κr. promise-told (λ a r t x e line may.
+          let m = a.0.message in
+          let media = a.0.media in
+          let (g, d) = (demand-1-kept.by_write_line κ).and_so a (told_by r) t (tells-so r x) in
+          front (line_of m media) _ _ _ (d.1 e) ∙ sym ((demand-2.one_line line m media).0 (sym (read-so κr line _ may))).0) (write-line-allows κ);
+      sent_reads_back = λ κ κr. promise-told (λ a r t x m sent e back may.
+          let w = told_by r in
           let media = a.1.0 in
           let lent = a.1.1.0.now in
           let after = t.1.1.0.now in
-          let (g, d) = subst (λ (s : Option Message). GivenExactlyWhen w.number (send_table s media lent) × NothingChanges (line_sent s media) w lent after) sent ((demand-1-kept.by_write_sent κ).and_so a w t x) in
+          let (g, d) = subst (λ (s : Option Message). GivenExactlyWhen w.number (send_table s media lent) × NothingChanges (line_sent s media) w lent after) sent ((demand-1-kept.by_write_sent κ).and_so a w t (tells-so r x)) in
           written-reads κr m media lent after w g d e back may) (write-sent-allows κ);
-      line_comes_back = λ κ κr. promise (λ a w t x back may e.
+      line_comes_back = λ κ κr. promise-told (λ a r t x back may e.
+          let w = told_by r in
           let log = a.0.now in
           let lent = a.1.0.now in
-          let same = answer-one-line log (sym (number_read log) ∙ (ap (λ (g : Reading). number_of g.read) (sym (may.3 ∙ ap read_line may.2)) ∙ e)) in
-          let (g, d) = (demand-1-kept.by_answer_log κ).and_so a w t x in (answered log lent w.number g same, λ z. front (answer_of log) _ _ _ (d.1 z) ∙ same)) (answer-log-allows κ);
-      private_step = λ κ. promise (λ a r t x. rw (x.0, x.1) (by-its-row private_machine last_private_row demand-2.private_rows _ _ _ _)) (step-allows κ);
-      group_step = λ κ. promise (λ a r t x. rw (x.0, x.1) (by-its-row group_machine last_group_row demand-2.group_rows _ _ _ _)) (group-step-allows κ);
-      private_builds = λ κ. private-every κ (λ b. BuildKeeps private_machine last_private_row (as_build private_machine private_answer b))
+          let same = answer-one-line log (sym (number_read log) ∙ (ap (λ (g : Reading). number_of g.read) (sym (read-so κr log back may)) ∙ e)) in
+          let (g, d) = (demand-1-kept.by_answer_log κ).and_so a w t (tells-so r x) in (answered log lent w.number g same, λ z. front (answer_of log) _ _ _ (d.1 z) ∙ same)) (answer-log-allows κ);
+      private_step = λ κ. promise-told (λ a r t x. rw (x.0, x.1) (by-its-row private_machine last_private_row demand-2.private_rows _ _ _ _)) (step-allows κ);
+      group_step = λ κ. promise-told (λ a r t x. rw (x.0, x.1) (by-its-row group_machine last_group_row demand-2.group_rows _ _ _ _)) (group-step-allows κ);
+      private_builds = λ κ. private-every κ (λ b. BuildKeeps private_machine last_private_row (as_build private_machine b))
           (record { numbers = n.of_private_step; keeps = k.by_private_step; rows = demand-2.private_rows.rows_hold }, demand-2.private_rows);
-      group_builds = λ κ. group-every κ (λ b. BuildKeeps group_machine last_group_row (as_build group_machine group_answer b))
+      group_builds = λ κ. group-every κ (λ b. BuildKeeps group_machine last_group_row (as_build group_machine b))
           (record { numbers = n.of_group_step; keeps = k.by_group_step; rows = demand-2.group_rows.rows_hold }, demand-2.group_rows);
     }
 
@@ -214,14 +238,14 @@ demand-3-kept =
       two_cabs = λ κ. group-every κ SameCall (demand-3.two_cabs promised (λ s g i out. refl));
       any_order = λ κ. group-every κ AnyOrder (demand-3.any_order promised (λ s g i out. refl));
       by_reader = λ κ κr b reads obeys may x y together.
-          let e : reads ≡ read_line = λ j l. ((may l).3 ∙ ap read_line (may l).2) j in
+          let e : reads ≡ read_line = λ j l. read-so κr l (reads l) (may l) j in
           let ends : (z : Cab) → end_by reads b z.settings z.stored z.lines ≡ end_of b z = λ z.
           ap (λ (f : List ℕ → Reading). end_by f b z.settings z.stored z.lines) e ∙ end-heard b z.settings z.lines z.stored in
           let d = group-every κ SameCall (demand-3.two_cabs promised (λ s g i out. refl)) b obeys x y together in
           (ends x ∙ (d.same_record ∙ sym (ends y)), subst (λ (g : GroupRecord). Best (Knows x) (call_of g)) (sym (ends x)) d.first.best);
       better_line = λ κ κn. promise (λ a r t x number.
-          by-better (demand-3.better_line a.0 a.1.0 (sym number.1)) (λ h. x ∙ h.1) (λ h. x ∙ h.1)) (choose-allows κ);
-      better_choice = λ κ κn. promise (λ a r t x number.
-          by-better (demand-3.better_line a.0 a.1.0 (sym number.1)) (λ h. x ∙ h.0) (λ h. x ∙ h.0)) (choice-allows κ);
-      either_first = λ κc κn first second line other number one two. one.1 ∙ (demand-3.either_first first second (sym number.1) ∙ sym two.1);
+          by-better (demand-3.better_line a.0 a.1.0 (sym (number-so κn a.0 a.1.0 0 number))) (λ h. x ∙ h.1) (λ h. x ∙ h.1)) (choose-allows κ);
+      better_choice = λ κ κn. promise-told (λ a r t x number.
+          by-better (demand-3.better_line a.0 a.1.0 (sym (number-so κn a.0 a.1.0 0 number))) (λ h. x ∙ h.0) (λ h. x ∙ h.0)) (choice-allows κ);
+      either_first = λ κc κn first second line other number one two. one.1 ∙ (demand-3.either_first first second (sym (number-so κn first second 0 number)) ∙ sym two.1);
     }

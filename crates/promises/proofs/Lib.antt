@@ -1,5 +1,7 @@
+pub mod Telling
 pub mod Allows
 pub mod DemandsKept
+pub mod Known
 pub mod OneAnswer
 pub mod OneAnswerLines
 pub mod OneAnswerMachines

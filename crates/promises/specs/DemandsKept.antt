@@ -18,8 +18,9 @@ use Rattle.call.specs.declared.Settings.{Settings}
 use Rattle.call.specs.declared.Input.{Input}
 use Rattle.stepping.specs.Sending.{line_sent}
 use Rattle.stepping.proofs.write_sent.Reads as write-sent
+use Rattle.stepping.specs.Answer.{Answer}
+use Rattle.private_record.specs.declared.states.Timers.{Timers}
 use Rattle.private_record.specs.declared.states.PrivateRecord.{PrivateRecord}
-use Rattle.private_call.specs.declared.Stepped as PrivateStepped
 use Rattle.private_call.proofs.step.Reads as step
 use Rattle.chooser.specs.Choice.{place}
 use Rattle.chooser.proofs.choose.Reads as choose
@@ -28,7 +29,7 @@ use Rattle.chooser.proofs.choice.Reads as choice
 use Rattle.group_record.specs.declared.states.GroupRecord.{GroupRecord}
 use Rattle.group_call.specs.Hearing.{HeardLine, Build, answer_to}
 use Rattle.group_call.proofs.step.Reads as group-step
-use Rattle.demands.specs.Machines.{Machine, Unrefused, line_to_send, ByRow, private_answer, private_machine, group_answer, group_machine}
+use Rattle.demands.specs.Machines.{Machine, Unrefused, line_to_send, ByRow, private_machine, group_machine}
 use Rattle.demands.specs.ExactlyWhen.{GivenExactlyWhen, line_table, write_table, send_table, answer_table, choice_table, step_table}
 use Rattle.demands.specs.NothingChanges.{NothingChanges, StepKeeps}
 use Rattle.demands.specs.Consequences.{last_private_row, last_group_row}
@@ -36,8 +37,7 @@ use Rattle.demands.specs.Builds.{BuildOf, built_as}
 use Rattle.demands.specs.Demands.{MeetsDemands, ByTheRows}
 use Rattle.demands.specs.SameCall.{Cab, call_of, Knows, Together, Best, BestCall, SameCall, AnyOrder}
 use Rattle.demands.specs.BetterLine.{ByBetterCall}
-use Rattle.promises.specs.OfContracts.{Promises, Lent, OfLine, OfTwoLines, OfWriting, OfLog, OfStep, MayRead, MayNumber, MayHandBack, StepBuild, Obeys}
-use Rattle.stepping.specs.Answer.{Answer}
+use Rattle.promises.specs.OfContracts.{Promises, Lent, OfLine, OfTwoLines, OfWriting, OfSending, OfLog, OfStep, CheckLineTells, ReadLineTells, WriteLineTells, WriteSentTells, AnswerLogTells, ChooseNumberTells, ChoiceTells, PrivateStepTells, GroupStepTells, MayRead, MayNumber, MayHandBack, StepBuild, Obeys}
 
 -- ---- Demand 1: whatever comes in gets an answer; what is bad gets its number, and nothing else happens
 
@@ -59,35 +59,35 @@ Numbered M s p i lent answer after = GivenExactlyWhen answer.number (step_table 
 -- demand 1, function by function
 pub record Demand1Kept : Type 0 where
   -- a line to check: each number exactly when
-  pub by_check_line : (κ : Lfts 1) → Promises (check-line.Asked κ) (check-line.Learnt κ) (OfLine (λ line number. GivenExactlyWhen number (line_table line)))
+  pub by_check_line : (κ : Lfts 1) → Promises (check-line.Asked κ) (CheckLineTells κ) (OfLine (λ line number. GivenExactlyWhen number (line_table line)))
   -- a line to read: the same, and where it has a number there is neither message nor media
-  pub by_read_line : (κ : Lfts 1) → Promises (read-line.Asked κ) (read-line.Learnt κ)
+  pub by_read_line : (κ : Lfts 1) → Promises (read-line.Asked κ) (ReadLineTells κ)
       (OfLine (λ line answer. GivenExactlyWhen (number_of answer.read) (line_table line) × ((number_of answer.read ≡ 0 → ⊥) → answer ≡ refusal (number_of answer.read))))
   -- a frame to write: each number exactly when, and nothing else then
-  pub by_write_line : (κ : Lfts 1) → Promises (write-line.Asked κ) (write-line.Learnt κ)
+  pub by_write_line : (κ : Lfts 1) → Promises (write-line.Asked κ) (WriteLineTells κ)
       (OfWriting (λ m media lent told after. GivenExactlyWhen told.number (write_table m media lent) × NothingChanges (line_of m media) told lent after))
   -- what a step sends: the same
-  pub by_write_sent : (κ : Lfts 1) → Promises (write-sent.Asked κ) (write-sent.Learnt κ)
-      (OfWriting (λ sent media lent told after. GivenExactlyWhen told.number (send_table sent media lent) × NothingChanges (line_sent sent media) told lent after))
+  pub by_write_sent : (κ : Lfts 1) → Promises (write-sent.Asked κ) (WriteSentTells κ)
+      (OfSending (λ sent media lent told after. GivenExactlyWhen told.number (send_table sent media lent) × NothingChanges (line_sent sent media) told lent after))
   -- a log to answer: the same
-  pub by_answer_log : (κ : Lfts 2) → Promises (answer-log.Asked κ) (answer-log.Learnt κ)
+  pub by_answer_log : (κ : Lfts 2) → Promises (answer-log.Asked κ) (AnswerLogTells κ)
       (OfLog (λ log lent told after. GivenExactlyWhen told.number (answer_table log lent) × NothingChanges (answer_of log) told lent after))
   -- two lines to choose between: each number of the question exactly when
-  pub by_choose_number : (κ : Lfts 2) → Promises (choose-number.Asked κ) (choose-number.Learnt κ)
+  pub by_choose_number : (κ : Lfts 2) → Promises (choose-number.Asked κ) (ChooseNumberTells κ)
       (OfTwoLines (λ first second number. GivenExactlyWhen number (choice_table first.now second.now)))
   -- where the question has a number, no bytes are handed back, where the first line begins
   pub by_choose : (κ : Lfts 1) (κn : Lfts 2) → Promises (choose.Asked κ) (choose.Learnt κ)
       (OfTwoLines (λ first second line. (number : ℕ) → MayNumber κn first second number → (number ≡ 0 → ⊥) → place line ≡ (first.ref_ptr, [])))
   -- the choice is 0 exactly where the question has a number
-  pub by_choice : (κ κn : Lfts 2) → Promises (choice.Asked κ) (choice.Learnt κ)
+  pub by_choice : (κ κn : Lfts 2) → Promises (choice.Asked κ) (ChoiceTells κ)
       (OfTwoLines (λ first second chosen. (number : ℕ) → MayNumber κn first second number → (chosen ≡ 0) ↔ (number ≡ 0 → ⊥)))
   -- and it names the line that is handed back
-  pub choice_names : (κ : Lfts 2) (κc : Lfts 1) → Promises (choice.Asked κ) (choice.Learnt κ)
+  pub choice_names : (κ : Lfts 2) (κc : Lfts 1) → Promises (choice.Asked κ) (ChoiceTells κ)
       (OfTwoLines (λ first second chosen. (line : Lent) → MayHandBack κc first second line → NamesLine first second chosen line))
   -- a step of the private call machine: each number exactly when, and nothing else then
-  pub by_private_step : (κ : Lfts 1) → Promises (step.Asked κ) (step.Learnt κ) (OfStep (λ s p i lent r after. Numbered private_machine s p i lent (private_answer r) after))
+  pub by_private_step : (κ : Lfts 1) → Promises (step.Asked κ) (PrivateStepTells κ) (OfStep (λ s p i lent r after. Numbered private_machine s p i lent r after))
   -- a step of the group call machine: the same
-  pub by_group_step : (κ : Lfts 1) → Promises (group-step.Asked κ) (group-step.Learnt κ) (OfStep (λ s g i lent r after. Numbered group_machine s g i lent (group_answer r) after))
+  pub by_group_step : (κ : Lfts 1) → Promises (group-step.Asked κ) (GroupStepTells κ) (OfStep (λ s g i lent r after. Numbered group_machine s g i lent r after))
 
 -- ---- Demand 2: every step gives what the numbered rows say; a good message has one line, and no other line reads as it
 
@@ -106,8 +106,8 @@ pub record ByItsRow (M : Machine) (last : ℕ) (s : Settings) (p : M.Stored) (i 
   pub clears : M.Clearing answer.row → answer.next ≡ M.cleared
 
 -- a build of a step, as one of its machine
-abbrev pub as_build : (M : Machine) → {R : Type 0} → (R → Answer M.Stored M.Timers) → StepBuild M.Stored R → BuildOf M
-as_build M view b = record { answer = λ s p i out. view (b s p i out).0; after = λ s p i out. (b s p i out).1 }
+abbrev pub as_build : (M : Machine) → StepBuild M.Stored (Answer M.Stored M.Timers) → BuildOf M
+as_build M b = record { answer = λ s p i out. (b s p i out).0; after = λ s p i out. (b s p i out).1 }
 
 -- a build meets the demands, and goes by the rows
 abbrev pub BuildKeeps : (M : Machine) → ℕ → BuildOf M → Type 0
@@ -116,30 +116,30 @@ BuildKeeps M last b = MeetsDemands M b × ByTheRows (built_as M b) last
 -- demand 2, function by function, and of whole builds
 pub record Demand2Kept : Type 0 where
   -- what is read is a frame exactly if the frame is good and the bytes are its line
-  pub one_line : (κ : Lfts 1) → Promises (read-line.Asked κ) (read-line.Learnt κ)
+  pub one_line : (κ : Lfts 1) → Promises (read-line.Asked κ) (ReadLineTells κ)
       (OfLine (λ line answer. (m : Message) (media : Media) → (answer ≡ reading m media) ↔ ((line ≡ line_of m media) × GoodFrame m media)))
   -- a line that is written reads as the frame that was to be written, with its media where the kind carries media
-  pub reads_back : (κ κr : Lfts 1) → Promises (write-line.Asked κ) (write-line.Learnt κ)
+  pub reads_back : (κ κr : Lfts 1) → Promises (write-line.Asked κ) (WriteLineTells κ)
       (OfWriting (λ m media lent told after. told.number ≡ 0 → (back : Reading) → MayRead κr (take told.length after) back → back ≡ reading m (media_of (kind_of m) media)))
   -- and a line that was read is written again as it was
-  pub writes_back : (κ κr : Lfts 1) → Promises (write-line.Asked κ) (write-line.Learnt κ)
+  pub writes_back : (κ κr : Lfts 1) → Promises (write-line.Asked κ) (WriteLineTells κ)
       (OfWriting (λ m media lent told after. told.number ≡ 0 → (line : List ℕ) → MayRead κr line (reading m media) → take told.length after ≡ line))
   -- what is written for a step to send reads as the message that was to be sent, with its media where the kind carries media
-  pub sent_reads_back : (κ κr : Lfts 1) → Promises (write-sent.Asked κ) (write-sent.Learnt κ)
-      (OfWriting (λ sent media lent told after. (m : Message) → sent ≡ Some m → told.number ≡ 0 → (back : Reading) → MayRead κr (take told.length after) back
+  pub sent_reads_back : (κ κr : Lfts 1) → Promises (write-sent.Asked κ) (WriteSentTells κ)
+      (OfSending (λ sent media lent told after. (m : Message) → sent ≡ Some m → told.number ≡ 0 → (back : Reading) → MayRead κr (take told.length after) back
       → back ≡ reading m (media_of (kind_of m) media)))
   -- a log that is one readable line is answered where the line has room, and the answer is that very line
-  pub line_comes_back : (κ : Lfts 2) (κr : Lfts 1) → Promises (answer-log.Asked κ) (answer-log.Learnt κ)
+  pub line_comes_back : (κ : Lfts 2) (κr : Lfts 1) → Promises (answer-log.Asked κ) (AnswerLogTells κ)
       (OfLog (λ log lent told after. (answer : Reading) → MayRead κr log answer → number_of answer.read ≡ 0
       → (length log ≤ length lent → told.number ≡ 0) × (told.number ≡ 0 → take told.length after ≡ log)))
   -- R1 to R29, step by step
-  pub private_step : (κ : Lfts 1) → Promises (step.Asked κ) (step.Learnt κ) (OfStep (λ s p i lent r after. ByItsRow private_machine last_private_row s p i lent (private_answer r) after))
+  pub private_step : (κ : Lfts 1) → Promises (step.Asked κ) (PrivateStepTells κ) (OfStep (λ s p i lent r after. ByItsRow private_machine last_private_row s p i lent r after))
   -- G1 to G11, step by step
-  pub group_step : (κ : Lfts 1) → Promises (group-step.Asked κ) (group-step.Learnt κ) (OfStep (λ s g i lent r after. ByItsRow group_machine last_group_row s g i lent (group_answer r) after))
+  pub group_step : (κ : Lfts 1) → Promises (group-step.Asked κ) (GroupStepTells κ) (OfStep (λ s g i lent r after. ByItsRow group_machine last_group_row s g i lent r after))
   -- every build that the contract of the private step allows, and there are some, meets the demands and goes by the rows
-  pub private_builds : (κ : Lfts 1) (b : StepBuild PrivateRecord PrivateStepped.Stepped) → Obeys (step.Learnt κ) b → BuildKeeps private_machine last_private_row (as_build private_machine private_answer b)
+  pub private_builds : (κ : Lfts 1) (b : StepBuild PrivateRecord (Answer PrivateRecord Timers)) → Obeys (PrivateStepTells κ) b → BuildKeeps private_machine last_private_row (as_build private_machine b)
   -- so does every build that the contract of the group step allows
-  pub group_builds : (κ : Lfts 1) (b : Build) → Obeys (group-step.Learnt κ) b → BuildKeeps group_machine last_group_row (as_build group_machine group_answer b)
+  pub group_builds : (κ : Lfts 1) (b : Build) → Obeys (GroupStepTells κ) b → BuildKeeps group_machine last_group_row (as_build group_machine b)
 
 -- ---- Demand 3: two cabs of one group in S3 that know of the same calls end in the same call, the best of them
 
@@ -151,20 +151,20 @@ end_by reads b s g (x ∷ xs) = end_by reads b s (answer_to b s g (reads x.line)
 -- demand 3, of every build of the group step and every reader that the contracts allow, and of the chooser
 pub record Demand3Kept : Type 0 where
   -- one cab ends in the best call that it knows of
-  pub one_cab : (κ : Lfts 1) (b : Build) → Obeys (group-step.Learnt κ) b → BestCall b
+  pub one_cab : (κ : Lfts 1) (b : Build) → Obeys (GroupStepTells κ) b → BestCall b
   -- two cabs that know of the same calls end in the same one
-  pub two_cabs : (κ : Lfts 1) (b : Build) → Obeys (group-step.Learnt κ) b → SameCall b
+  pub two_cabs : (κ : Lfts 1) (b : Build) → Obeys (GroupStepTells κ) b → SameCall b
   -- order, repeats, unreadable lines and other traffic count for nothing
-  pub any_order : (κ : Lfts 1) (b : Build) → Obeys (group-step.Learnt κ) b → AnyOrder b
+  pub any_order : (κ : Lfts 1) (b : Build) → Obeys (GroupStepTells κ) b → AnyOrder b
   -- with every reader that the contract of `read_line` allows two cabs end with one record, whose call is the best that they know of
-  pub by_reader : (κ κr : Lfts 1) (b : Build) (reads : List ℕ → Reading) → Obeys (group-step.Learnt κ) b → ((line : List ℕ) → MayRead κr line (reads line))
+  pub by_reader : (κ κr : Lfts 1) (b : Build) (reads : List ℕ → Reading) → Obeys (GroupStepTells κ) b → ((line : List ℕ) → MayRead κr line (reads line))
       → (x y : Cab) → Together x y → let end : Cab → GroupRecord = λ z. end_by reads b z.settings z.stored z.lines in
       (end x ≡ end y) × Best (Knows x) (call_of (end x))
   -- where `choose_number` may tell 0, the line that `choose` may hand back is that of the better call, itself
   pub better_line : (κ : Lfts 1) (κn : Lfts 2) → Promises (choose.Asked κ) (choose.Learnt κ)
       (OfTwoLines (λ first second line. MayNumber κn first second 0 → ByBetterCall first second (place line ≡ place first) (place line ≡ place second)))
   -- where it may tell 0, the number that `choice` may tell is 1 or 2, by the better call
-  pub better_choice : (κ κn : Lfts 2) → Promises (choice.Asked κ) (choice.Learnt κ)
+  pub better_choice : (κ κn : Lfts 2) → Promises (choice.Asked κ) (ChoiceTells κ)
       (OfTwoLines (λ first second chosen. MayNumber κn first second 0 → ByBetterCall first second (chosen ≡ 1) (chosen ≡ 2)))
   -- and the line handed back is the same one, whichever of the two is lent first
   pub either_first : (κc : Lfts 1) (κn : Lfts 2) (first second line other : Lent) → MayNumber κn first second 0 → MayHandBack κc first second line

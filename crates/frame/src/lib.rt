@@ -17,6 +17,7 @@ pub struct Media {
 
 impl Media {
     // What a kind without media has in its place.
+    // No Option around it: `in_range` and the writer answer for any media beside a kind that carries none.
     pub const NONE: Media = Media { number: 0 };
 }
 
@@ -30,6 +31,7 @@ pub struct Parties {
 
 impl Parties {
     // Where there is no call.
+    // No Option around it: a record that holds no call has these fields, and `well_formed` answers for any others.
     pub const NONE: Parties = Parties {
         identifier: 0,
         caller: 0,
@@ -38,6 +40,7 @@ impl Parties {
 }
 
 // What a setup request says of the call besides.
+// Numbers in place of enums: one out of its range is a field that `in_range` and the writer refuse, with 5.
 #[derive(Clone, Copy, PartialEq, Eq)]
 pub struct Setup {
     pub commencement: u8,
@@ -50,7 +53,7 @@ impl Setup {
     pub const PRIVATE: u8 = 4;
 }
 
-// A group call, all but its media.
+// A group call, all but its media; its type is a number for the reason that stands at Setup.
 #[derive(Clone, Copy, PartialEq, Eq)]
 pub struct GroupCall {
     pub identifier: u16,
@@ -65,6 +68,7 @@ pub struct GroupCall {
 
 impl GroupCall {
     // Where there is no call.
+    // No Option around it: a record that holds no call has these fields, and `well_formed` answers for any others.
     pub const NONE: GroupCall = GroupCall {
         identifier: 0,
         group: 0,
@@ -77,7 +81,7 @@ impl GroupCall {
     };
 }
 
-// A user's acceptance of a group call.
+// A user's acceptance of a group call; its type is a number for the reason that stands at Setup.
 #[derive(Clone, Copy, PartialEq, Eq)]
 pub struct Acceptance {
     pub identifier: u16,
@@ -86,7 +90,8 @@ pub struct Acceptance {
     pub group: u32,
 }
 
-// The nine kinds of message, 01 to 09; a reject has its reason, an announcement its confirm beside it.
+// The nine kinds of message, 01 to 09; a reject has its reason, an announcement its confirm beside it, both numbers for
+// the reason that stands at Setup.
 #[derive(Clone, Copy, PartialEq, Eq)]
 pub enum Message {
     SetupRequest(Parties, Setup),

@@ -25,7 +25,8 @@ fn change_too_early(settings: Settings, stored: GroupRecord, event: Event, row: 
     row == Row::G9 && !later(announced_of(settings, event).call, stored.call)
 }
 
-// A step of the group call machine: where it is refused, the record stays as it was.
+// A step of the group call machine; where it is refused the record stays.
+// Not said once with the private machine's: a trait would declare five functions with their definitions for this body.
 pub fn step(
     settings: Settings,
     stored: GroupRecord,

@@ -8,6 +8,7 @@ use frame::GroupCall;
 
 // The rank of a call's type, best first: emergency 0, imminent peril 1, basic 2; what is no type of a group call ranks
 // with basic.
+// A number, no enum: `rank` promises the number of `rank_of`, and all that is asked of it is which is the lower.
 pub fn rank(call_type: u8) -> u8
     ensures { result ≡ rank_of call_type }
 {

@@ -7,6 +7,7 @@ use frame::{GroupCall, Message};
 use group_order::{better, rank};
 
 // What happens to a group call, without any fields; what can meet no row is Other.
+// Other, no None: the table of the rows asks for a cause by its number, and Other has one that no row asks for.
 #[derive(Clone, Copy, PartialEq, Eq)]
 pub enum Cause {
     UserStarts,

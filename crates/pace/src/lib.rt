@@ -1,5 +1,6 @@
 // Entries that play the steps which the bytes of a script name, one after the other, so that a host can measure a step
 // of either machine. The crate pace_c exports them to C.
+// Bytes in place of events: C hands them over.
 #![tactic(auto)]
 
 mod happenings;

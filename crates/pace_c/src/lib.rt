@@ -1,5 +1,6 @@
 // Entries for C that play the steps which the bytes of a script name, so that a host can measure a step of either
 // machine. Each is the function of its name in pace, with the same clauses.
+// Said twice, since no crate can stand on an archive for C, and theorems speak of the library's.
 #![tactic(auto)]
 
 ghost use Rattle.std.specs.Prelude.{◌≡◌};

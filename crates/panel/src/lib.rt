@@ -1,5 +1,6 @@
 // The entries for the panel shell in C: numbers and byte slices, and nothing else. The crate panel_c exports them, and
 // host/include/panel.h declares them.
+// Numbers in place of Options and Results: C is told them.
 #![tactic(auto)]
 
 ghost use Rattle.std.specs.Prelude.{◌≡◌};

@@ -1,5 +1,6 @@
 // The entries for the panel shell in C: numbers and byte slices, and nothing else. Declared in host/include/panel.h.
 // Each is the function of its name in panel, with the same clauses.
+// Said twice, since no crate can stand on an archive for C, and theorems speak of the library's.
 #![tactic(auto)]
 
 ghost use Rattle.std.specs.Prelude.{◌≡◌};

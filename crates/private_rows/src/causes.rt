@@ -12,6 +12,7 @@ use frame::{Message, Parties};
 use private_record::states::{Phase, PrivateRecord};
 
 // What happens to a private call, without any fields; what can meet no row is Other.
+// Other, no None: the table of the rows asks for a cause by its number, and Other has one that no row asks for.
 #[derive(Clone, Copy, PartialEq, Eq)]
 pub enum Cause {
     UserStarts,
@@ -110,6 +111,7 @@ fn same_identifier(heard: Parties, stored: Parties) -> bool
 }
 
 // Another message is of the stored call.
+// Two functions of one body: the rows ask for `same_identifier` and `same_call`, which are two rules.
 fn same_call(heard: Parties, stored: Parties) -> bool
     ensures { result ≡ same_call heard stored }
 {

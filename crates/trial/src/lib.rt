@@ -1,5 +1,6 @@
 // Entries for the host's own trials of what the panel shell does not call: the values that a line is read as, the line
 // that values are written as, and the answer to a log. The crate trial_c exports them to C.
+// Numbers in place of Options and Results: C is told them.
 #![tactic(auto)]
 
 mod carried;
@@ -10,7 +11,7 @@ ghost use Rattle.log_answer.specs.Answer.{answer_told, answer_buffer};
 ghost use Rattle.frame.specs.Refusal.{number_of};
 ghost use Rattle.trial.specs.Values.{line_values, IsKindOf, values_number, values_buffer};
 
-use crate::values::{media_from, message_from, message_value, value_at};
+use crate::values::{frame_value, media_from, message_from, value_at};
 use frame::{Frame, Kind, Refusal};
 
 // One value of what a line reads as, in the order of the line: its kind at place 0, its identifier at 1, and so on; 0
@@ -20,7 +21,7 @@ pub fn trial_value(line: &[u8], place: usize) -> u32
     ensures { result ≡ get_or (line_values line.now) place 0 }
 {
     match reader::read_line(line) {
-        Ok(frame) => message_value(frame.message, frame.media, place),
+        Ok(frame) => frame_value(frame, place),
         Err(_) => 0,
     }
 }

@@ -9,7 +9,7 @@ ghost use Rattle.trial.specs.Values.{cut, parties_in, setup_in, group_call_in, a
 ghost use Rattle.trial.specs.Values.{media_with, media_in};
 
 use crate::carried::{media_value, media_with};
-use frame::{Acceptance, GroupCall, Kind, Media, Message, Parties, Setup};
+use frame::{Acceptance, Frame, GroupCall, Kind, Media, Message, Parties, Setup};
 
 // The value at a place, 0 where there is none.
 pub(crate) fn value_at(values: &[u32], place: usize) -> u32
@@ -99,9 +99,10 @@ fn acceptance_value(acceptance: Acceptance, place: usize) -> u32
 }
 
 // One value of a frame.
-pub(crate) fn message_value(message: Message, media: Media, place: usize) -> u32
-    ensures { result ≡ get_or (frame_values message media) place 0 }
+pub(crate) fn frame_value(frame: Frame, place: usize) -> u32
+    ensures { result ≡ get_or (frame_values frame.message frame.media) place 0 }
 {
+    let Frame { message, media } = frame;
     let carried = media_value(media);
     match message {
         Message::SetupRequest(parties, setup) => setup_value(parties, setup, carried, place),

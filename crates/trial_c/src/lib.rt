@@ -1,6 +1,7 @@
 // Entries for the host's own trials of what the panel shell does not call: the values that a line is read as, the line
 // that values are written as, and the answer to a log. Each is the function of its name in trial, with the same
 // clauses.
+// Said twice, since no crate can stand on an archive for C, and theorems speak of the library's.
 #![tactic(auto)]
 
 ghost use Rattle.std.specs.Prelude.{◌≡◌, get_or};

@@ -89,6 +89,7 @@ pub enum Timer {
 }
 
 // What the user names who starts a private call; its media stands beside it.
+// Numbers in place of enums, here and below: one out of its range is an argument that a step refuses, with 8.
 #[derive(Clone, Copy, PartialEq, Eq)]
 pub struct PrivateStart {
     pub identifier: u16,

@@ -119,6 +119,7 @@ impl SetByRule for Timers {
 }
 
 // What is known of a call.
+// A number in place of an enum: `well_formed` tells of a record whose commencement is out of its range.
 #[derive(Clone, Copy, PartialEq, Eq)]
 pub struct PrivateCall {
     pub parties: Parties,
@@ -129,6 +130,7 @@ pub struct PrivateCall {
 
 impl PrivateCall {
     // No call.
+    // No Option around it: a record that holds no call has these fields, and `well_formed` answers for any others.
     pub const NONE: PrivateCall = PrivateCall {
         parties: Parties::NONE,
         commencement: 0,

@@ -150,6 +150,7 @@ pub enum Event {
 }
 
 // What a step takes in: an event, the media beside it, and the host's verdicts.
+// Settings and record are not in it: a host keeps each in its own place, and theorems vary one while the rest stays.
 #[derive(Clone, Copy, PartialEq, Eq)]
 pub struct Input {
     pub event: Event,

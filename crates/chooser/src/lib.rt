@@ -73,8 +73,8 @@ pub fn choice(first: &[u8], second: &[u8]) -> Option<Winner>
     }
 }
 
-// Whether one can choose between two lines: the refusal of the first line, else that of the second, else 10 where they
-// do not announce two calls of one group with two identifiers.
+// Whether one can choose between two lines; else the refusal whose number is told: that of the first line, else that
+// of the second, else 10 where they do not announce two calls of one group with two identifiers.
 #[tactic(auto, unfolding(crate::specs::Choice::choice_number))]
 pub fn choose_number(first: &[u8], second: &[u8]) -> Result<(), Refusal>
     ensures { number_of result ≡ choice_number first.now second.now }
@@ -88,6 +88,7 @@ pub fn choose_number(first: &[u8], second: &[u8]) -> Result<(), Refusal>
 }
 
 // The line of the better call, itself and no copy; where there is no choice, no bytes where the first line begins.
+// No Option: `place_of` promises these bytes, and their place.
 pub fn choose<'a>(first: &'a [u8], second: &'a [u8]) -> &'a [u8]
     ensures { place result
         ≡ place_of (choice_of first.now second.now) first.entry second.entry }

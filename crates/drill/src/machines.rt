@@ -25,11 +25,11 @@ pub(crate) enum Timers {
     Group(group_record::states::Timers),
 }
 
-// A row that was carried out, by the machine whose it is and its number there.
+// A row that was carried out, by its machine.
 #[derive(Clone, Copy)]
 pub(crate) enum Row {
-    Private(u8),
-    Group(u8),
+    Private(private_rows::Row),
+    Group(group_rows::Row),
 }
 
 // What a step of either machine did.
@@ -85,7 +85,7 @@ impl Record {
             Record::Private(record) => {
                 let stepped = private_call::step(settings, record, input, lent)?;
                 Ok(Stepped {
-                    row: stepped.row.map(|row| Row::Private(row as u8)),
+                    row: stepped.row.map(|row| Row::Private(row)),
                     next: Record::Private(stepped.next),
                     stop: Timers::Private(stepped.stop),
                     start: Timers::Private(stepped.start),
@@ -95,7 +95,7 @@ impl Record {
             Record::Group(record) => {
                 let stepped = group_call::step(settings, record, input, lent)?;
                 Ok(Stepped {
-                    row: stepped.row.map(|row| Row::Group(row as u8)),
+                    row: stepped.row.map(|row| Row::Group(row)),
                     next: Record::Group(stepped.next),
                     stop: Timers::Group(stepped.stop),
                     start: Timers::Group(stepped.start),

@@ -28,6 +28,7 @@ struct Script {
 
 impl Script {
     // Reads standard input to its first end, or as far as is read at most; only then is it asked whether more comes.
+    // Lines reads its log so: a crate for both would be longer than the lines that it saves.
     fn read(rt: &HostRuntime) -> io::Result<Script> {
         let mut text = Vec::new(rt.alloc());
         rt.stdin().take(MOST as u64).read_to_end(&mut text)?;

@@ -178,8 +178,8 @@ impl fmt::Display for Step<'_> {
 impl fmt::Display for Row {
     fn fmt<W: fmt::Write>(&self, f: &mut fmt::Formatter<W>) -> fmt::Result {
         match self {
-            Row::Private(number) => write!(f, "R{number}"),
-            Row::Group(number) => write!(f, "G{number}"),
+            Row::Private(row) => write!(f, "R{}", *row as u8),
+            Row::Group(row) => write!(f, "G{}", *row as u8),
         }
     }
 }

@@ -39,6 +39,7 @@ impl Value for u16 {
 }
 
 // A number of 8 bits.
+// Said as of 16 bits: an impl over all types that a u32 may become would take the other kinds of value too.
 impl Value for u8 {
     fn read(word: &[u8]) -> Option<u8> {
         u8::try_from(u32::read(word)?).ok()

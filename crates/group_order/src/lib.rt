@@ -8,7 +8,7 @@ use frame::GroupCall;
 
 // The rank of a call's type, best first: emergency 0, imminent peril 1, basic 2; what is no type of a group call ranks
 // with basic.
-// A number, no enum: `rank` promises the number of `rank_of`, and all that is asked of it is which is the lower.
+// A number, no enum, which would be no plainer: it would need these numbers for its order, and a definition of them.
 pub fn rank(call_type: u8) -> u8
     ensures { result ≡ rank_of call_type }
 {

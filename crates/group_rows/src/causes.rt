@@ -7,7 +7,8 @@ use frame::{GroupCall, Message};
 use group_order::{better, rank};
 
 // What happens to a group call, without any fields; what can meet no row is Other.
-// Other, no None: the table of the rows asks for a cause by its number, and Other has one that no row asks for.
+// Other, no None: it is a case of `cause_number`, by which the table of the rows compares; as an Option each of its
+// clauses would ask for Some.
 #[derive(Clone, Copy, PartialEq, Eq)]
 pub enum Cause {
     UserStarts,

@@ -12,6 +12,7 @@ const ROOM: usize = 3 * MOST;
 
 // Reads standard input to its first end, or as far as is answered at most. Only there it is asked whether more comes,
 // and that is said: at a terminal an earlier end would have to be typed twice.
+// Drill reads its script so: a crate for both would be longer than the lines that it saves.
 fn read_log(rt: &HostRuntime) -> io::Result<Vec<u8>> {
     let mut log = Vec::new(rt.alloc());
     rt.stdin().take(MOST as u64).read_to_end(&mut log)?;

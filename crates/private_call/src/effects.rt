@@ -46,7 +46,7 @@ pub enum Say {
 }
 
 // What a row does.
-// Not said once with the group machine's: an Effect over four types would save two of its functions, and no definition.
+// Not said once with the group machine's: over four types it would save two functions, and no definition.
 #[derive(Clone, Copy)]
 pub struct Effect {
     // The state afterwards.

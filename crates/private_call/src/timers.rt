@@ -1,30 +1,21 @@
-// What becomes of the timers, by the rules for all rows.
+// Which timer just ran out, and which start.
 ghost use Rattle.std.specs.Prelude.{◌≡◌};
-ghost use Rattle.private_call.specs.Carried.{ran_out_by, private_timer_out, started_of};
+ghost use Rattle.private_call.specs.Carried.{ran_out_by, started_of};
 
 use call::{Event, PrivateTimer, Timer};
 use private_record::states::{State, Timers};
-
-// A timer of the private machine that just ran out.
-fn private_timer_out(timer: PrivateTimer) -> Timers
-    ensures { result ≡ private_timer_out timer }
-{
-    match timer {
-        PrivateTimer::Tfp1 => Timers::TFP1,
-        PrivateTimer::Tfp2 => Timers::TFP2,
-        PrivateTimer::Tfp3 => Timers::TFP3,
-        PrivateTimer::Tfp4 => Timers::TFP4,
-        PrivateTimer::Tfp5 => Timers::TFP5,
-        PrivateTimer::Tfp7 => Timers::TFP7,
-    }
-}
 
 // The timer that just ran out.
 pub(crate) fn ran_out(event: Event) -> Timers
     ensures { result ≡ ran_out_by event }
 {
     match event {
-        Event::Expiry(Timer::Private(timer)) => private_timer_out(timer),
+        Event::Expiry(Timer::Private(PrivateTimer::Tfp1)) => Timers::TFP1,
+        Event::Expiry(Timer::Private(PrivateTimer::Tfp2)) => Timers::TFP2,
+        Event::Expiry(Timer::Private(PrivateTimer::Tfp3)) => Timers::TFP3,
+        Event::Expiry(Timer::Private(PrivateTimer::Tfp4)) => Timers::TFP4,
+        Event::Expiry(Timer::Private(PrivateTimer::Tfp5)) => Timers::TFP5,
+        Event::Expiry(Timer::Private(PrivateTimer::Tfp7)) => Timers::TFP7,
         _ => Timers::NONE,
     }
 }

@@ -12,6 +12,7 @@ use call::{Counters, Request, Settings};
 use frame::{Frame, Message};
 
 // A counter: 1 to its limit while its timer runs, else 0.
+// A flag with a number beside it: `well_formed` tells of a record whose counter does not go with its timer.
 fn counter_good(runs: bool, limit: u8, counter: u8) -> bool
     ensures { result ≡ counter_good runs limit counter }
 {

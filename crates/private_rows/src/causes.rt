@@ -12,7 +12,8 @@ use frame::{Message, Parties};
 use private_record::states::{Phase, PrivateRecord};
 
 // What happens to a private call, without any fields; what can meet no row is Other.
-// Other, no None: the table of the rows asks for a cause by its number, and Other has one that no row asks for.
+// Other, no None: it is a case of `cause_number`, by which the table of the rows compares; as an Option each of its
+// clauses would ask for Some.
 #[derive(Clone, Copy, PartialEq, Eq)]
 pub enum Cause {
     UserStarts,
@@ -103,17 +104,10 @@ pub(crate) fn cause_of(settings: Settings, event: Event) -> Cause
 
 // ---- what a row may ask besides
 
-// A setup request has the stored identifier.
+// A setup request has the stored identifier; another message, which is asked the same, is of the stored call.
 fn same_identifier(heard: Parties, stored: Parties) -> bool
-    ensures { result ≡ same_identifier heard stored }
-{
-    heard.identifier == stored.identifier
-}
-
-// Another message is of the stored call.
-// Two functions of one body: the rows ask for `same_identifier` and `same_call`, which are two rules.
-fn same_call(heard: Parties, stored: Parties) -> bool
-    ensures { result ≡ same_call heard stored }
+    ensures of_request { result ≡ same_identifier heard stored }
+    ensures of_other { result ≡ same_call heard stored }
 {
     heard.identifier == stored.identifier
 }
@@ -123,13 +117,13 @@ fn message_same(message: Message, stored: Parties) -> bool
     ensures { result ≡ message_same message stored }
 {
     match message {
-        Message::SetupRequest(parties, _) => same_identifier(parties, stored),
-        Message::Ringing(parties)
+        Message::SetupRequest(parties, _)
+        | Message::Ringing(parties)
         | Message::Accept(parties)
         | Message::Reject(parties, _)
         | Message::Release(parties)
         | Message::ReleaseAck(parties)
-        | Message::AcceptAck(parties) => same_call(parties, stored),
+        | Message::AcceptAck(parties) => same_identifier(parties, stored),
         _ => false,
     }
 }

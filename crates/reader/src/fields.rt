@@ -1,4 +1,4 @@
-// A kind's layout, and the fields that stand at its places of a line.
+// The fields that stand at the places of a line.
 ghost use Rattle.std.specs.Prelude.{◌≡◌, ◌+◌, ◌<◌, length};
 ghost use Rattle.frame.specs.Kind.{kind_number};
 ghost use Rattle.reader.specs.Line.{parties_at, setup_at, group_call_at, acceptance_at, message_at, media_at};

@@ -1,4 +1,5 @@
 // The ranges judged on a line's digits: no message is made.
+// The fields of `is_good` in frame once more: not 0 is told by a digit that is not `0`, so no number need be read.
 ghost use Rattle.std.specs.Prelude.{◌≡◌, ◌+◌, ◌<◌, length};
 ghost use Rattle.frame.specs.Digits.{one, two, four, number_at};
 ghost use Rattle.frame.specs.Range.{never_zero};
@@ -13,7 +14,7 @@ use frame::range::Range;
 
 impl DigitLine<'_> {
     // Whether a number of one byte is not 0: one of its digits is not `0`.
-    // Three functions, no const parameter: the law of two halves is one step a function, and with it a case a width.
+    // Three functions, no const parameter: its law would have a case for each width, where each function has one step.
     fn one_fits(&self, at: usize) -> bool
         requires { at + 2 < length self.now.bytes.now }
         ensures { result ≡ never_zero one (number_at one self.now.bytes.now at) }

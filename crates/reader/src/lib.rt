@@ -27,6 +27,7 @@ pub fn check_line(line: &[u8]) -> Result<(), Refusal>
 }
 
 // The frame of a line, or why it is refused.
+// Judged as in `check_line`: the contract of a function for both would be longer than the lines that it saves.
 #[tactic(auto, unfolding(crate::specs::Line::read_line))]
 pub fn read_line(line: &[u8]) -> Result<Frame, Refusal>
     ensures { reading_of result ≡ read_line line.now }

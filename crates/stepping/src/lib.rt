@@ -30,6 +30,7 @@ pub struct Carried<Record, Timers> {
 
 // What a step answers that is not refused: the row, if one is met, and what carrying it out gives; `stop` comes ahead
 // of `start`, and the line of this length stands at the front of the buffer.
+// A length of 0 and no Option: `send_told` promises it where nothing is sent, which is no line of no bytes.
 #[derive(Clone, Copy)]
 pub struct Stepped<Row, Record, Timers> {
     pub row: Option<Row>,
@@ -147,8 +148,8 @@ fn arguments_good(settings: Settings, event: Event, media: Media) -> bool
 
 // ---- the refusals ahead of any row
 
-// What a step refuses before it looks for a row: 7 for a setting, 9 for a record that is not well formed, 5 for a
-// field of a message, 8 for an argument of an action.
+// What a step refuses before it looks for a row, by its number: 7 for a setting, 9 for a record that is not well formed,
+// 5 for a field of a message, 8 for an argument of an action.
 #[tactic(auto, unfolding(crate::specs::Numbers::number_before_row))]
 pub fn number_before_row(settings: Settings, well_formed: bool, input: Input) -> Result<(), Refusal>
     ensures { number_of result ≡ number_before_row settings well_formed input }

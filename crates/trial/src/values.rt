@@ -26,6 +26,7 @@ fn byte_at(values: &[u32], place: usize) -> u8
 }
 
 // The value at a place, cut to two bytes.
+// Two functions, no generic one: each gives the type of its fields, by a cast that it proves.
 fn two_bytes_at(values: &[u32], place: usize) -> u16
     ensures { result ≡ cut two (get_or values.now place 0) }
 {

@@ -27,6 +27,7 @@ fn change_too_early(settings: Settings, stored: GroupRecord, event: Event, row: 
 
 // A step of the group call machine; where it is refused the record stays.
 // Not said once with the private machine's: a trait would declare five functions with their definitions for this body.
+// A lent buffer and a length, no Vec, as in the writer.
 pub fn step(
     settings: Settings,
     stored: GroupRecord,

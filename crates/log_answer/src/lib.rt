@@ -13,6 +13,7 @@ use frame::Refusal;
 
 // The answer to a log at the front of a lent buffer, and its length: each readable line, and for any other `!`, its
 // number and a line end; 6 where there is no room.
+// A lent buffer and a length, no Vec, as in the writer.
 #[tactic(auto, unfolding(crate::specs::Answer::answer_number, crate::specs::Answer::answer_told, crate::specs::Answer::answer_buffer))]
 pub fn answer_log(log: &[u8], out: &mut [u8]) -> Result<usize, Refusal>
     ensures value { told_by result ≡ answer_told log.now out.old }

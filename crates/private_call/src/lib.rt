@@ -29,6 +29,7 @@ fn identifier_taken(settings: Settings, stored: PrivateRecord, event: Event, row
 
 // A step of the private call machine; where it is refused the record stays.
 // Not said once with the group machine's: a trait would declare five functions with their definitions for this body.
+// A lent buffer and a length, no Vec, as in the writer.
 pub fn step(
     settings: Settings,
     stored: PrivateRecord,

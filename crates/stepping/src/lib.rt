@@ -69,6 +69,7 @@ fn settings_good(settings: Settings) -> bool
 // ---- what is heard, and what the user asks for
 
 // A message's fields are in range; other events have none.
+// Event and media apart, here and below, and no Input: what is judged is in the end a part of the event.
 fn heard_good(event: Event, media: Media) -> bool
     ensures { result ≡ heard_good event media }
 {
@@ -172,6 +173,7 @@ pub fn number_before_row(settings: Settings, well_formed: bool, input: Input) ->
 // ---- the line that is sent
 
 // What a step sends, at the front of a lent buffer: nothing, or the line of a message, as the writer answers.
+// A lent buffer and a length, no Vec, as in the writer; the length is 0 where nothing is sent, as `send_told` promises.
 #[tactic(auto, unfolding(writer::specs::Writing::written_of, writer::specs::Writing::buffer_of))]
 pub fn write_sent(sent: Option<Message>, media: Media, out: &mut [u8]) -> Result<usize, Refusal>
     ensures value { told_by result ≡ send_told sent media out.old }

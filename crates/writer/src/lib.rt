@@ -14,6 +14,7 @@ use frame::{Frame, Message, Refusal};
 
 // The line of a frame at the front of a lent buffer, and its length: 5 where a field is outside its range, 6 where
 // there is no room.
+// A lent buffer and a length, no Vec: a panel has fixed memory and no heap.
 pub fn write_line(frame: Frame, out: &mut [u8]) -> Result<usize, Refusal>
     ensures value { told_by result ≡ written_of frame.message frame.media out.old }
     ensures out_after { out.new ≡ buffer_of frame.message frame.media out.old }

@@ -46,7 +46,7 @@ says docs/DECISIONS.md "$(fields CounterFacts crates/private_call/src/carrying.r
 says docs/PROMISES.md "$(fields TimerFacts crates/call/src/timers.rt)" 'by the @ facts that the rules for all rows'
 kinds=$(grep -c '^kind_of (' crates/frame/specs/Frame.antt)
 says README.md "$kinds" 'it is none of the @, 01 to 0%'
-says docs/DECISIONS.md "$kinds" 'that there are @ kinds'
+says docs/DECISIONS.md "$kinds" 'The @ kinds and their digits'
 says docs/ROWS.md "$kinds" 'a message that is one of @ kinds'
 says docs/ROWS.md "$kinds" '), an enum of @ |'
 held=$(($(fields GroupCall crates/frame/src/lib.rt) + 1))

@@ -35,15 +35,30 @@ other_tools() {
     for entry in "$kit"/toolchain/bin/*; do
         [ "${entry##*/}" = clang ] || ln -s "$entry" "$aside/bin/" || return
     done
-    compiler "$kit/toolchain/bin/clang" >"$clang" && chmod +x "$clang" && ln -s "$clang" "$aside/bin/"
+    changes >"${said%/*}/changes.sed" && compiler "$kit/toolchain/bin/clang" >"$clang" && chmod +x "$clang" && ln -s "$clang" "$aside/bin/"
+}
+
+# Prints what becomes of the text of the module, for sed. What is said of an x86 processor is taken out of it. Two values that are read as one
+# are read one by one: they were written so, the second at place 8, and with short pointers it would be looked for at 4.
+changes() {
+    cat <<'END'
+s/ "target-cpu"="x86-64[-v0-9]*"//
+s/ "probe-stack"="inline-asm"//
+s/ "stack-probe-size"="[0-9]*"//
+s/^ *(%[a-z0-9.]+) = load (\{ (ptr|i[0-9]+), (ptr|i[0-9]+) \}), ptr (%[a-z0-9.]+), align 8$/  \1.first = load \3, ptr \5, align 8\
+  \1.place = getelementptr i8, ptr \5, i64 8\
+  \1.second = load \4, ptr \1.place, align 8\
+  \1.half = insertvalue \2 poison, \3 \1.first, 0\
+  \1 = insertvalue \2 \1.half, \4 \1.second, 1/
+END
 }
 
 # Prints the compiler that stands in for that of the first word.
 compiler() {
     cat <<END
 #!/usr/bin/env bash
-# The kit's compiler, asked for $target where it is asked for x86-64. The module goes through it as text, so that what is said of
-# an x86 processor can be taken out of it: with a processor that it does not know the compiler makes poorer code.
+# The kit's compiler, asked for $target where it is asked for x86-64. The module goes through it as text, so that it can be
+# changed: with a processor that it does not know the compiler makes poorer code, and values beside a pointer lie otherwise.
 clang=$(printf %q "$1")
 own=($(target_words "$target") -Wno-override-module)
 words=()
@@ -52,7 +67,11 @@ for word in "\$@"; do
     --target=* | -march=*) ;;
     *.bc)
         "\$clang" "\${own[@]}" --no-default-config -Xclang -disable-llvm-passes -S -emit-llvm -x ir "\$word" -o "\$word.ll" || exit
-        sed -i 's/ "target-cpu"="x86-64[-v0-9]*"//; s/ "probe-stack"="inline-asm"//; s/ "stack-probe-size"="[0-9]*"//' "\$word.ll" || exit
+        sed -i -E -f $(printf %q "${said%/*}/changes.sed") "\$word.ll" || exit
+        if grep -E ' (load|store) [{[][^%@]*\bptr\b[^%@]*[]}]' "\$word.ll" >&2; then
+            echo "values with a pointer among them are read or written as one, and may lie otherwise on $target" >&2
+            exit 1
+        fi
         words+=("\$word.ll")
         ;;
     *) words+=("\$word") ;;

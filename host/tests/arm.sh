@@ -66,11 +66,39 @@ target triple = "x86_64-unknown-linux-gnu"
 define i32 @answer() #0 { ret i32 7 }
 attributes #0 = { nounwind "probe-stack"="inline-asm" "stack-probe-size"="3072" "target-cpu"="x86-64-v2" }
 END
-target/native/armv7-linux-gnueabihf/clang --target=x86_64-unknown-linux-gnu -march=x86-64 --no-default-config -Werror \
-    -S -emit-llvm -x ir "$room/module.bc" -o "$room/module.ll" >"$room/said" 2>&1
+# Has it make the module $room/module.bc for 32-bit Arm, as text.
+stand_in() {
+    target/native/armv7-linux-gnueabihf/clang --target=x86_64-unknown-linux-gnu -march=x86-64 --no-default-config -Werror \
+        -O3 -S -emit-llvm -x ir "$room/module.bc" -o "$room/module.ll" >"$room/said" 2>&1
+}
+stand_in
 wrong=$(head -n 1 "$room/said"; grep -E 'x86|probe' "$room/module.ll")
 grep -q '^target triple = "armv7' "$room/module.ll" || wrong="$wrong no module for armv7"
 verdict "what a module says of an x86 processor is taken out for another machine" "$wrong"
+
+# A pair that is written value by value, the pointer at 8, and read as one.
+cat >"$room/module.bc" <<'END'
+target triple = "x86_64-unknown-linux-gnu"
+@seven = private constant i32 7
+define i32 @answer() {
+  %pair = alloca [16 x i8], align 8
+  store i64 1, ptr %pair, align 8
+  %place = getelementptr i8, ptr %pair, i64 8
+  store ptr @seven, ptr %place, align 8
+  %both = load { i8, ptr }, ptr %pair, align 8
+  %second = extractvalue { i8, ptr } %both, 1
+  %number = load i32, ptr %second, align 4
+  ret i32 %number
+}
+END
+stand_in
+verdict "a pointer is read from where it was written, also where pointers are short" \
+    "$(head -n 1 "$room/said"; grep -q '^ *ret i32 7$' "$room/module.ll" || grep '^ *ret' "$room/module.ll")"
+sed -i 's/^  ret .*/  store { i8, ptr } %both, ptr %pair, align 8\n&/' "$room/module.bc"
+stand_in
+ended=$?
+verdict "a module whose pointers may lie otherwise is not taken" \
+    "$([ $ended -ne 0 ] && grep -q 'may lie otherwise on armv7-linux-gnueabihf$' "$room/said" || echo "status $ended"; head -n 1 "$room/said" | grep -v 'store { i8, ptr }')"
 
 # ---- what they answer
 

@@ -140,12 +140,12 @@ for page in docs/ROWS.md docs/PROMISES.md docs/DEMANDS.md docs/SLIPS.md; do
 done
 verdict "every edit that docs/ROWS.md, docs/PROMISES.md, docs/DEMANDS.md and docs/SLIPS.md name is there" "$wrong"
 
-# Prints PAGE:NAME for each name that a page cites, but for docs/CHANGES.md and docs/PORT.md, which tell of names that were: its arguments, and
+# Prints PAGE:NAME for each name that a page cites, but for docs/CHANGES.md, docs/DESIGN-PASS.md and docs/PORT.md, which tell of names that were: its arguments, and
 # what stands ahead of `::` or of the point of a method, are left out. A name may be that of a file.
 cited() {
     local page
     for page in README.md docs/*.md; do
-        [[ $page = docs/CHANGES.md || $page = docs/PORT.md ]] || quoted "$page" | sed -E 's/^[a-z_]+\.([a-z_]+\(\))$/\1/; s/\(.*\)$//; s/.*:://' |
+        [[ $page =~ ^docs/(CHANGES|DESIGN-PASS|PORT)\.md$ ]] || quoted "$page" | sed -E 's/^[a-z_]+\.([a-z_]+\(\))$/\1/; s/\(.*\)$//; s/.*:://' |
             grep -E '^[A-Za-z][A-Za-z0-9_-]*(\.(antt|rt|h|sh|txt))?$' | sed "s|^|$page:|"
     done
 }

@@ -1,6 +1,7 @@
 -- What becomes of the timers in a step of either machine. Assumes nothing.
 use Rattle.std.specs.Prelude.{Bool, not, ◌&&◌, ◌||◌}
 use Rattle.call.specs.declared.timers.TimerFacts.{TimerFacts}
+use Rattle.call.specs.declared.timers.TimerRule.{TimerRule}
 use Rattle.call.specs.declared.timers.TimerSets.{TimerSets}
 
 -- whether it is stopped: it runs and did not run out just now, and the row asks for its stop, or the state changes and the row does not start it anew
@@ -10,6 +11,11 @@ is_stopped x = x.was_running && (not x.ran_out && (x.stop_asked || (x.state_chan
 -- whether it runs afterwards: it was started, or it ran and was neither stopped nor ran out
 abbrev pub runs_after : TimerFacts → Bool
 runs_after x = x.started || (x.was_running && (not (is_stopped x) && not x.ran_out))
+
+-- whether a rule takes it
+abbrev pub taken_by : TimerRule → TimerFacts → Bool
+taken_by TimerRule.IsStopped x = is_stopped x
+taken_by TimerRule.RunsAfter x = runs_after x
 
 -- ---- the timers of a machine
 
@@ -23,6 +29,10 @@ timer_facts has x t =
       started = has x.started t;
       state_changes = x.state_changes;
     }
+
+-- the timers that a rule takes, each by what is asked of it
+abbrev pub set_by : {Set Timer : Type 0} → (Set → Timer → Bool) → ((Timer → Bool) → Set) → TimerRule → TimerSets Set → Set
+set_by has set_of rule x = set_of (λ t. taken_by rule (timer_facts has x t))
 
 -- the timers that are stopped, by the rule for each
 unfoldable pub stopped_of : {Set Timer : Type 0} → (Set → Timer → Bool) → ((Timer → Bool) → Set) → TimerSets Set → Set

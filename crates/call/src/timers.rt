@@ -1,6 +1,6 @@
 // What becomes of the timers in a step of either machine: the rules for all rows.
 ghost use Rattle.std.specs.Prelude.{◌≡◌, Bool};
-ghost use Rattle.call.specs.Timing.{is_stopped, runs_after, timer_facts, stopped_of, running_after};
+ghost use Rattle.call.specs.Timing.{is_stopped, runs_after, taken_by, timer_facts, set_by, stopped_of, running_after};
 
 // What the rules ask of one timer.
 #[derive(Clone, Copy, PartialEq, Eq)]
@@ -15,6 +15,15 @@ pub struct TimerFacts {
     pub started: bool,
     // The state changes.
     pub state_changes: bool,
+}
+
+// The rules for one timer.
+#[derive(Clone, Copy, PartialEq, Eq)]
+pub enum TimerRule {
+    // It takes what the step stops.
+    IsStopped,
+    // It takes what runs after the step.
+    RunsAfter,
 }
 
 impl TimerFacts {
@@ -32,6 +41,16 @@ impl TimerFacts {
         ensures { result ≡ runs_after self }
     {
         self.started || (self.was_running && !self.is_stopped() && !self.ran_out)
+    }
+
+    // Whether a rule takes it.
+    pub fn is_taken_by(self, rule: TimerRule) -> bool
+        ensures { result ≡ taken_by rule self }
+    {
+        match rule {
+            TimerRule::IsStopped => self.is_stopped(),
+            TimerRule::RunsAfter => self.runs_after(),
+        }
     }
 }
 
@@ -54,9 +73,9 @@ pub trait SetByRule: TimerSet {
     ghost set_of: { (Self.Timer → Bool) → Self };
 
     // The set of the timers that a rule takes, each by what the rules ask of it.
-    fn by_rule<F: Fn(TimerFacts) -> bool>(sets: TimerSets<Self>, rule: F) -> Self
-        requires { F.IsAlwaysCallable rule }
-        ensures { (timer : Self.Timer) → F.post rule (timer_facts Self.has sets timer) (Self.has result timer) };
+    // No closure for the rule: a call of one needs a `requires`, and no public function has any.
+    fn by_rule(sets: TimerSets<Self>, rule: TimerRule) -> Self
+        ensures { result ≡ set_by Self.has set_of rule sets };
 
     // A set has its timers, and nothing else.
     ghost its_timers: { (set : Self) → set_of (Self.has set) ≡ set };
@@ -93,7 +112,7 @@ impl<S: SetByRule> TimerSets<S> {
     pub fn stopped(self) -> S
         ensures { result ≡ stopped_of S.has S.set_of self }
     {
-        S::by_rule(self, |facts| facts.is_stopped())
+        S::by_rule(self, TimerRule::IsStopped)
     }
 
     // What runs afterwards.
@@ -101,6 +120,6 @@ impl<S: SetByRule> TimerSets<S> {
     pub fn running_after(self) -> S
         ensures { result ≡ running_after S.has S.set_of self }
     {
-        S::by_rule(self, |facts| facts.runs_after())
+        S::by_rule(self, TimerRule::RunsAfter)
     }
 }

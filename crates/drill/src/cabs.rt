@@ -42,16 +42,36 @@ pub(crate) struct Buffer {
 impl Buffer {
     // The most that a cab can lend.
     pub(crate) const MOST: u8 = 128;
+
+    // The same, as the length of the room that is lent from.
+    pub(crate) const ROOM: usize = 128;
 }
 
-// A cab: what it is set to and lends, its two records, and the line that it sent last, without its line end.
-#[derive(Drop)]
+// A line that was sent, with its line end at the front of what was lent for it.
+// A fixed room, no String: so the program takes no heap, and none can be wanting.
+#[derive(Clone, Copy)]
+pub(crate) struct Sent {
+    pub(crate) lent: [u8; Buffer::ROOM],
+}
+
+impl Sent {
+    // Its digits, without its line end.
+    pub(crate) fn digits(&self) -> &[u8] {
+        match self.lent.iter().position(|byte| *byte == b'\n') {
+            Some(count) => &self.lent[..count],
+            None => &[],
+        }
+    }
+}
+
+// A cab: what it is set to and lends, its two records, and the line that it sent last.
+#[derive(Clone, Copy)]
 pub(crate) struct Cab {
     pub(crate) settings: Settings,
     pub(crate) buffer: Buffer,
     pub(crate) private: PrivateRecord,
     pub(crate) group: GroupRecord,
-    pub(crate) sent: Option<String>,
+    pub(crate) sent: Option<Sent>,
 }
 
 impl Cab {
@@ -94,7 +114,7 @@ impl Cab {
 }
 
 // A shift: its two cabs.
-#[derive(Drop)]
+#[derive(Clone, Copy)]
 pub(crate) struct Shift {
     pub(crate) a: Cab,
     pub(crate) b: Cab,

@@ -59,48 +59,34 @@ impl Record {
         }
     }
 
-    // What a step does that is refused: nothing.
-    pub(crate) fn kept(self) -> Stepped {
-        let none = match self {
-            Record::Private(_) => Timers::Private(private_record::states::Timers::NONE),
-            Record::Group(_) => Timers::Group(group_record::states::Timers::NONE),
-        };
-        Stepped {
-            row: None,
-            next: self,
-            stop: none,
-            start: none,
-            length: 0,
-        }
-    }
-
-    // A step of its machine on a lent buffer.
-    pub(crate) fn step(
-        self,
-        settings: Settings,
-        input: Input,
-        lent: &mut [u8],
-    ) -> Result<Stepped, Refusal> {
+    // A step of its machine on a lent buffer: its number, 0 where it was not refused, and what it did.
+    pub(crate) fn step(self, settings: Settings, input: Input, lent: &mut [u8]) -> (u8, Stepped) {
         match self {
             Record::Private(record) => {
-                let stepped = private_call::step(settings, record, input, lent)?;
-                Ok(Stepped {
-                    row: stepped.row.map(|row| Row::Private(row)),
-                    next: Record::Private(stepped.next),
-                    stop: Timers::Private(stepped.stop),
-                    start: Timers::Private(stepped.start),
-                    length: stepped.length,
-                })
+                let answer = private_call::step(settings, record, input, lent);
+                let none = private_record::states::Timers::NONE;
+                let done = private_call::Stepped::of(answer, record, none);
+                let told = Stepped {
+                    row: done.row.map(|row| Row::Private(row)),
+                    next: Record::Private(done.next),
+                    stop: Timers::Private(done.stop),
+                    start: Timers::Private(done.start),
+                    length: done.length,
+                };
+                (Refusal::number_of(&answer), told)
             }
             Record::Group(record) => {
-                let stepped = group_call::step(settings, record, input, lent)?;
-                Ok(Stepped {
-                    row: stepped.row.map(|row| Row::Group(row)),
-                    next: Record::Group(stepped.next),
-                    stop: Timers::Group(stepped.stop),
-                    start: Timers::Group(stepped.start),
-                    length: stepped.length,
-                })
+                let answer = group_call::step(settings, record, input, lent);
+                let none = group_record::states::Timers::NONE;
+                let done = group_call::Stepped::of(answer, record, none);
+                let told = Stepped {
+                    row: done.row.map(|row| Row::Group(row)),
+                    next: Record::Group(done.next),
+                    stop: Timers::Group(done.stop),
+                    start: Timers::Group(done.start),
+                    length: done.length,
+                };
+                (Refusal::number_of(&answer), told)
             }
         }
     }

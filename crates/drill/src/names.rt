@@ -18,26 +18,27 @@ pub(crate) trait Names: Copy {
     fn set(&mut self, name: &[u8], word: &[u8]) -> Result<(), Complaint>;
 }
 
+// How many names a command takes at most: those of a private record.
+const MOST_NAMES: usize = 16;
+
 impl<'a> Words<'a> {
     // What was there, with all that the words name set.
+    // The names that were given are kept: to look for them among the words again would take a walk of the line for each.
     pub(crate) fn named<N: Names>(self, mut fields: N) -> Result<N, Fault> {
-        for word in self {
+        let mut names: [&[u8]; MOST_NAMES] = [&[]; MOST_NAMES];
+        for (count, word) in self.enumerate() {
             let (name, value) = parts(word).ok_or(word.fault(Complaint::Name))?;
-            if self.names_before(word, name) {
+            if names.iter().take(count).any(|given| *given == name) {
                 return Err(word.fault(Complaint::Twice));
             }
             fields
                 .set(name, value)
                 .map_err(|complaint| word.fault(complaint))?;
+            if let Some(place) = names.get_mut(count) {
+                *place = name;
+            }
         }
         Ok(fields)
-    }
-
-    // Whether a word ahead of this one has the name.
-    fn names_before(self, word: Word<'a>, name: &[u8]) -> bool {
-        self.take_while(|earlier| earlier.at < word.at)
-            .filter_map(parts)
-            .any(|(given, _)| given == name)
     }
 
     // Nothing, where no word follows.

@@ -58,18 +58,27 @@ fn standing<C: Call>(of_a: Option<C>, of_b: Option<C>) -> &'static str {
 }
 
 impl Shift {
-    // Tells how the shift ends.
+    // Tells how the shift ends: each line, also where one ahead of it could not be written.
     pub(crate) fn tell_outcome(&self, rt: &impl Print) -> io::Result<()> {
-        for name in [CabName::A, CabName::B] {
-            for machine in [Machine::Private, Machine::Group] {
-                let record = self.cab(name).record(machine);
-                let state = record.state();
-                println!(rt; "end {name} {machine} {state} {record}")?;
-            }
-        }
+        let of_a = self.tell_cab(rt, CabName::A);
+        let of_b = self.tell_cab(rt, CabName::B);
         let private = standing(self.a.private_call(), self.b.private_call());
-        println!(rt; "Private call: {private}")?;
+        let of_private = println!(rt; "Private call: {private}");
         let group = standing(self.a.group_call(), self.b.group_call());
-        println!(rt; "Group call: {group}")
+        let of_group = println!(rt; "Group call: {group}");
+        of_a.and(of_b).and(of_private).and(of_group)
+    }
+
+    // Tells the records of a cab.
+    fn tell_cab(&self, rt: &impl Print, name: CabName) -> io::Result<()> {
+        let private = self.tell_record(rt, name, Machine::Private);
+        self.tell_record(rt, name, Machine::Group).and(private)
+    }
+
+    // Tells the record that a cab keeps for a machine.
+    fn tell_record(&self, rt: &impl Print, name: CabName, machine: Machine) -> io::Result<()> {
+        let record = self.cab(name).record(machine);
+        let state = record.state();
+        println!(rt; "end {name} {machine} {state} {record}")
     }
 }

@@ -1,5 +1,6 @@
 // A script, line by line, and what each command does.
-use crate::cabs::{Cab, CabName, Shift};
+use crate::MOST;
+use crate::cabs::{Buffer, Cab, CabName, Sent, Shift};
 use crate::commands::{Command, Hearing, Line};
 use crate::complaints::{Complaint, Fault};
 use crate::machines::Machine;
@@ -7,22 +8,37 @@ use crate::telling::{Step, Turn};
 use crate::words::Words;
 use call::{Action, Event, Input, Timer};
 use frame::Refusal;
-use std::alloc::{AllocError, Global};
 use std::io;
 
 // What the bytes of a lent buffer are ahead of a step: no byte of a line.
 const UNTOUCHED: u8 = b'.';
 
+// Rooms for the bytes of two lines that a command names: each holds more than a command has.
+// Fixed ones, no Vec: so the program takes no heap, and none can be wanting.
+#[derive(Drop)]
+struct Rooms {
+    first: [u8; MOST],
+    second: [u8; MOST],
+}
+
+// The line of these digits, with its line end or without it, at the front of a room.
+fn line_in<'a>(room: &'a mut [u8; MOST], digits: &[u8], ended: bool) -> &'a [u8] {
+    let count = digits.len().min(MOST - 1);
+    room[..count].copy_from_slice(&digits[..count]);
+    room[count] = b'\n';
+    &room[..count + usize::from(ended)]
+}
+
 impl Shift {
     // Plays every line of a script.
-    pub(crate) fn play(
-        &mut self,
-        rt: &(impl Print + AllocGlobal),
-        script: &[u8],
-    ) -> io::Result<()> {
+    pub(crate) fn play(&mut self, rt: &impl Print, script: &[u8]) -> io::Result<()> {
+        let mut rooms = Rooms {
+            first: [0u8; MOST],
+            second: [0u8; MOST],
+        };
         for (command, line) in (1..).zip(script.split(|byte| *byte == b'\n')) {
             match self.read(line) {
-                Ok(Some((cab, asked))) => self.obey(rt, Turn { command, cab }, asked)?,
+                Ok(Some((cab, asked))) => self.obey(rt, &mut rooms, Turn { command, cab }, asked)?,
                 Ok(None) => {}
                 Err(fault) => println!(rt; "! line {command}, {fault}")?,
             }
@@ -44,7 +60,8 @@ impl Shift {
     // Does what a command asks for.
     fn obey(
         &mut self,
-        rt: &(impl Print + AllocGlobal),
+        rt: &impl Print,
+        rooms: &mut Rooms,
         turn: Turn,
         command: Command,
     ) -> io::Result<()> {
@@ -55,39 +72,34 @@ impl Shift {
             Command::PrivateRecord(record) => cab.private = record,
             Command::GroupRecord(record) => cab.group = record,
             Command::Happens(input) => cab.take_steps(rt, turn, input)?,
-            Command::Hears(line, hearing) => self.hear(rt, turn, line, hearing)?,
-            Command::Chooses(first, second) => self.choose(rt, turn, first, second)?,
+            Command::Hears(line, hearing) => self.hear(rt, rooms, turn, line, hearing)?,
+            Command::Chooses(first, second) => self.choose(rt, rooms, turn, first, second)?,
         }
         Ok(())
     }
 
-    // The bytes of a line, with its line end or without it.
-    fn bytes_of(&self, alloc: Global, line: Line, ended: bool) -> Result<Vec<u8>, AllocError> {
-        let mut bytes = Vec::new(alloc);
+    // The digits of a line, without its line end.
+    fn digits_of<'a>(&'a self, line: Line<'a>) -> &'a [u8] {
         match line {
-            Line::Digits(digits) => bytes.extend_from_slice(digits)?,
-            Line::SentLastBy(name) => {
-                if let Some(sent) = &self.cab(name).sent {
-                    bytes.extend_from_slice(sent.as_bytes())?;
-                }
-            }
+            Line::Digits(digits) => digits,
+            Line::SentLastBy(name) => match &self.cab(name).sent {
+                Some(sent) => sent.digits(),
+                None => &[],
+            },
         }
-        if ended {
-            bytes.push(b'\n')?;
-        }
-        Ok(bytes)
     }
 
     // Has both machines of a cab take a step on a line, unless the reader refuses it.
     fn hear(
         &mut self,
-        rt: &(impl Print + AllocGlobal),
+        rt: &impl Print,
+        rooms: &mut Rooms,
         turn: Turn,
         line: Line,
         hearing: Hearing,
     ) -> io::Result<()> {
-        let heard = self.bytes_of(rt.alloc(), line, hearing.ended)?;
-        match reader::read_line(heard.as_slice()) {
+        let heard = line_in(&mut rooms.first, self.digits_of(line), hearing.ended);
+        match reader::read_line(heard) {
             Ok(frame) => {
                 let input = Input {
                     event: Event::Message(frame.message),
@@ -106,29 +118,25 @@ impl Shift {
     // Has the chooser choose between two lines.
     fn choose(
         &self,
-        rt: &(impl Print + AllocGlobal),
+        rt: &impl Print,
+        rooms: &mut Rooms,
         turn: Turn,
         first: Line,
         second: Line,
     ) -> io::Result<()> {
-        let one = self.bytes_of(rt.alloc(), first, true)?;
-        let other = self.bytes_of(rt.alloc(), second, true)?;
-        let asked = chooser::choose_number(one.as_slice(), other.as_slice());
-        let number = Refusal::number_of(&asked);
-        let better = chooser::choose(one.as_slice(), other.as_slice());
+        let one = line_in(&mut rooms.first, self.digits_of(first), true);
+        let other = line_in(&mut rooms.second, self.digits_of(second), true);
+        let number = Refusal::number_of(&chooser::choose_number(one, other));
+        let better = chooser::choose(one, other);
         let call = unended(better).unwrap_or("-");
         println!(rt; "{turn} chooser {number} - - - - - - - {call} - -")
     }
 }
 
 impl Cab {
-    // Has the machine that an input is for take a step, and both on a message.
-    fn take_steps(
-        &mut self,
-        rt: &(impl Print + AllocGlobal),
-        turn: Turn,
-        input: Input,
-    ) -> io::Result<()> {
+    // Has the machine that an input is for take a step, and both on a message: the second is told also where the first
+    // could not be.
+    fn take_steps(&mut self, rt: &impl Print, turn: Turn, input: Input) -> io::Result<()> {
         match input.event {
             Event::Action(Action::Private(_)) | Event::Expiry(Timer::Private(_)) => {
                 self.take_step(rt, turn, Machine::Private, input)
@@ -137,8 +145,8 @@ impl Cab {
                 self.take_step(rt, turn, Machine::Group, input)
             }
             Event::Message(_) => {
-                self.take_step(rt, turn, Machine::Private, input)?;
-                self.take_step(rt, turn, Machine::Group, input)
+                let told = self.take_step(rt, turn, Machine::Private, input);
+                self.take_step(rt, turn, Machine::Group, input).and(told)
             }
         }
     }
@@ -146,16 +154,16 @@ impl Cab {
     // Has a machine take a step, tells it, and keeps what comes of it.
     fn take_step(
         &mut self,
-        rt: &(impl Print + AllocGlobal),
+        rt: &impl Print,
         turn: Turn,
         machine: Machine,
         input: Input,
     ) -> io::Result<()> {
         let stored = self.record(machine);
-        let mut lent = vec![in rt.alloc(); UNTOUCHED; usize::from(self.buffer.length)]?;
-        let outcome = stored.step(self.settings, input, lent.as_mut_slice());
-        let stepped = outcome.unwrap_or(stored.kept());
-        let sent = lent.get(..stepped.length).and_then(unended);
+        let mut room = [UNTOUCHED; Buffer::ROOM];
+        let lent = &mut room[..usize::from(self.buffer.length).min(Buffer::ROOM)];
+        let (number, done) = stored.step(self.settings, input, lent);
+        let sent = lent.get(..done.length).and_then(unended);
         let untouched = lent
             .iter()
             .rev()
@@ -164,14 +172,15 @@ impl Cab {
         let step = Step {
             turn,
             stored,
-            outcome,
+            number,
+            done,
             sent,
             untouched,
         };
         println!(rt; "{step}")?;
-        self.keep(stepped.next);
-        if let Some(line) = sent {
-            self.sent = Some(String::from_str(rt.alloc(), line)?);
+        self.keep(done.next);
+        if sent.is_some() {
+            self.sent = Some(Sent { lent: room });
         }
         Ok(())
     }

@@ -2,7 +2,6 @@
 use crate::cabs::CabName;
 use crate::machines::{Machine, Record, Row, Stepped, Timers};
 use call::Counters;
-use frame::Refusal;
 use group_record::states::GroupRecord;
 use private_record::states::PrivateRecord;
 use std::fmt;
@@ -138,13 +137,14 @@ fn write_timers<W: fmt::Write>(
     Ok(())
 }
 
-// A step as it is told: whose turn it was, the record ahead of it, what came of it, the line that it sent, and how many
+// A step as it is told: whose turn it was, the record ahead of it, its number, what it did, the line that it sent, and how many
 // bytes at the end of the lent buffer are as they were.
 #[derive(Clone, Copy)]
 pub(crate) struct Step<'a> {
     pub(crate) turn: Turn,
     pub(crate) stored: Record,
-    pub(crate) outcome: Result<Stepped, Refusal>,
+    pub(crate) number: u8,
+    pub(crate) done: Stepped,
     pub(crate) sent: Option<&'a str>,
     pub(crate) untouched: usize,
 }
@@ -153,7 +153,7 @@ pub(crate) struct Step<'a> {
 impl fmt::Display for Step<'_> {
     fn fmt<W: fmt::Write>(&self, f: &mut fmt::Formatter<W>) -> fmt::Result {
         let (turn, machine) = (self.turn, self.stored.machine());
-        let number = Refusal::number_of(&self.outcome);
+        let number = self.number;
         write!(f, "{turn} {machine} {number} ")?;
         let Stepped {
             row,
@@ -161,7 +161,7 @@ impl fmt::Display for Step<'_> {
             start,
             next,
             ..
-        } = self.outcome.unwrap_or(self.stored.kept());
+        } = self.done;
         match row {
             Some(row) => write!(f, "{row}")?,
             None => write!(f, "-")?,
@@ -178,8 +178,8 @@ impl fmt::Display for Step<'_> {
 impl fmt::Display for Row {
     fn fmt<W: fmt::Write>(&self, f: &mut fmt::Formatter<W>) -> fmt::Result {
         match self {
-            Row::Private(row) => write!(f, "R{}", *row as u8),
-            Row::Group(row) => write!(f, "G{}", *row as u8),
+            Row::Private(row) => write!(f, "R{}", row.number()),
+            Row::Group(row) => write!(f, "G{}", row.number()),
         }
     }
 }

@@ -60,9 +60,13 @@ module _ (s : Settings) (g : GroupRecord) (i : Input) (out : List ℕ) where
   as_step x = (x.0, x.1 ∙ sym (buffer_lent s g i out))
 
   -- refused before a row is looked for
-  pub refused-first : (refusal : Refusal) → refusal_number refusal ≡ before → Answers (refused_of (refusal_number refusal) g) out
-  refused-first refusal n =
-      as_step (rw n (answers.refused-first s (is_well_formed s g) i early (done_of s g i).sent (done_of s g i).next.media out (λ n. refused_of n g) (answer_met s g i) (λ z. answers.refusal-given refusal (n ∙ z))))
+  pub refused-first : (before ≡ 0 → ⊥) → Answers (refused_of before g) out
+  refused-first f =
+      as_step (answers.refused-first s (is_well_formed s g) i early (done_of s g i).sent (done_of s g i).next.media out (λ n. refused_of n g) (answer_met s g i) f)
+
+  -- the same by the refusal that has the number
+  pub first-refusal : (refusal : Refusal) → refusal_number refusal ≡ before → Answers (refused_of (refusal_number refusal) g) out
+  first-refusal refusal n = rw n (refused-first (λ z. answers.refusal-given refusal (n ∙ z)))
 
   -- refused by G9
   pub refused-by-row : before ≡ 0 → early ≡ true → Answers (refused_of 8 g) out
@@ -70,9 +74,13 @@ module _ (s : Settings) (g : GroupRecord) (i : Input) (out : List ℕ) where
       as_step (answers.refused-by-row s (is_well_formed s g) i early (done_of s g i).sent (done_of s g i).next.media out (λ n. refused_of n g) (answer_met s g i) e t)
 
   -- refused by the writer
-  pub refused-sending : before ≡ 0 → early ≡ false → (refusal : Refusal) → refusal_number refusal ≡ writers → Answers (refused_of (refusal_number refusal) g) left
-  refused-sending e t refusal n =
-      as_step (rw n (answers.refused-sending s (is_well_formed s g) i early (done_of s g i).sent (done_of s g i).next.media out (λ n. refused_of n g) (answer_met s g i) e t (λ z. answers.refusal-given refusal (n ∙ z))))
+  pub refused-sending : before ≡ 0 → early ≡ false → (writers ≡ 0 → ⊥) → Answers (refused_of writers g) left
+  refused-sending e t f =
+      as_step (answers.refused-sending s (is_well_formed s g) i early (done_of s g i).sent (done_of s g i).next.media out (λ n. refused_of n g) (answer_met s g i) e t f)
+
+  -- the same by the refusal that has the number
+  pub sending-refusal : before ≡ 0 → early ≡ false → (refusal : Refusal) → refusal_number refusal ≡ writers → Answers (refused_of (refusal_number refusal) g) left
+  sending-refusal e t refusal n = rw n (refused-sending e t (λ z. answers.refusal-given refusal (n ∙ z)))
 
   -- carried out, with the length that the writer tells
   pub carried-out : before ≡ 0 → (row : Row) → Some row ≡ row_of s g i.event → early ≡ false → writers ≡ 0

@@ -1,12 +1,11 @@
 // The group record: its state, its running timers, its call and the call's media.
 ghost use Rattle.std.specs.Prelude.{◌≡◌, refl};
-ghost use Rattle.call.specs.Timing.{timer_facts};
-ghost use Rattle.call.specs.declared.GroupTimer.{GroupTimer};
+ghost use Rattle.call.specs.Timing.{set_by};
 ghost use Rattle.group_record.specs.States.{has, set_of, running_of};
 ghost use Rattle.group_record.specs.Formed.{cleared_record};
 
 use call::GroupTimer;
-use call::timers::{SetByRule, TimerFacts, TimerSet, TimerSets};
+use call::timers::{SetByRule, TimerRule, TimerSet, TimerSets};
 use frame::{GroupCall, Media};
 
 // The states: start-stop, ongoing, and two in which the user is asked, S4 without confirm and S5 with it.
@@ -92,14 +91,13 @@ impl SetByRule for Timers {
     ghost set_of = { set_of };
 
     // The set of the timers that a rule takes.
-    fn by_rule<F: Fn(TimerFacts) -> bool>(sets: TimerSets<Timers>, rule: F) -> Timers
-        requires { F.IsAlwaysCallable rule }
-        ensures { (timer : GroupTimer) → F.post rule (timer_facts has sets timer) (has result timer) }
+    fn by_rule(sets: TimerSets<Timers>, rule: TimerRule) -> Timers
+        ensures { result ≡ set_by has set_of rule sets }
     {
         Timers {
-            tfg2: rule(sets.of(GroupTimer::Tfg2)),
-            tfg4: rule(sets.of(GroupTimer::Tfg4)),
-            tfg6: rule(sets.of(GroupTimer::Tfg6)),
+            tfg2: sets.of(GroupTimer::Tfg2).is_taken_by(rule),
+            tfg4: sets.of(GroupTimer::Tfg4).is_taken_by(rule),
+            tfg6: sets.of(GroupTimer::Tfg6).is_taken_by(rule),
         }
     }
 

@@ -4,8 +4,8 @@
 mod causes;
 mod rows;
 
-ghost use Rattle.std.specs.Prelude.{◌≡◌};
-ghost use Rattle.group_rows.specs.Rows.{row_of};
+ghost use Rattle.std.specs.Prelude.{◌≡◌, Some};
+ghost use Rattle.group_rows.specs.Rows.{row_number, row_of};
 
 use crate::causes::{cause_of, facts_of};
 use crate::rows::row_in;
@@ -26,6 +26,15 @@ pub enum Row {
     G9 = 9,
     G10 = 10,
     G11 = 11,
+}
+
+impl Row {
+    // Its number.
+    pub fn number(self) -> u8
+        ensures { result ≡ row_number (Some self) }
+    {
+        self as u8
+    }
 }
 
 // The row that an event meets from a record, if it meets one.

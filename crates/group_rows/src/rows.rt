@@ -1,5 +1,6 @@
 // Which row is met.
 ghost use Rattle.std.specs.Prelude.{◌≡◌};
+ghost use Rattle.group_rows.specs.Found.{found_at};
 ghost use Rattle.group_rows.specs.Rows.{row_in};
 
 use crate::Row;
@@ -10,7 +11,8 @@ use group_record::states::State::{S1, S3, S4, S5};
 // The row that is met in a state.
 #[tactic(auto, unfolding(crate::specs::Rows::row_in))]
 pub(crate) fn row_in(state: State, cause: Cause, facts: Facts) -> Option<Row>
-    ensures { result ≡ row_in state cause facts }
+    ensures met { result ≡ row_in state cause facts }
+    ensures found { result ≡ found_at state cause facts }
 {
     match (cause, state) {
         (Cause::UserStarts, S1) => Some(Row::G1),

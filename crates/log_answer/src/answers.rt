@@ -25,10 +25,13 @@ fn answer_line(line: &[u8], out: &mut [u8]) -> usize
     ensures out_after { out.new ≡ at_front (answer_to line.now) out.old }
 {
     let number = Refusal::number_of(&reader::check_line(line));
+    if number == 0 {
+        out[..line.len()].copy_from_slice(line);
+        return line.len();
+    }
     let refusal = [b'!', b'0' + number, b'\n'];
-    let answer = if number == 0 { line } else { &refusal };
-    out[..answer.len()].copy_from_slice(answer);
-    answer.len()
+    out[..3].copy_from_slice(&refusal);
+    3
 }
 
 // Whether room bytes hold the answer to a log; three times the log's length always does.

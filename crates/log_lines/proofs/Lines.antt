@@ -8,11 +8,13 @@ use Prim.Native.Nat.{ℕ, suc, ◌+◌, ◌<◌, ◌≤◌, min}
 use native.Mathlib.Omega.{arith}
 use lib.ListN.{length, take, drop}
 use lib.Seq.{length-take-le, take-append_seam, drop-append_seam}
-use borrow.Author.Tests.{not-true}
+use lib.Dec.{ltb}
+use borrow.Author.Tests.{not-true, ltb-true, ltb-false}
 use Rattle.std.specs.Prelude.{Option, Some, None}
 use Rattle.std.specs.List.{position_or_len}
 use Rattle.std.specs.Option.{option_map_or}
 use Rattle.std.proofs.lemmas.Bool.{false_from_ne_true}
+use Rattle.std.proofs.lemmas.Option.{none-some}
 use Rattle.std.proofs.lemmas.List.Sums.{position_or_len_is}
 use Rattle.memchr.specs.Find.{IsFirstByte, is_byte}
 use Rattle.frame.proofs.Laws.{and_split, or_cases}
@@ -65,12 +67,12 @@ lines-first (x ∷ y ∷ log) h = go (is_end x) (lines-first (y ∷ log) (omega 
     go false e = ap (ahead x) e
 
 -- the first line is the front of the log, by its length
-first-is-front : (log : List ℕ) → take (length (first_line log)) log ≡ first_line log
+pub first-is-front : (log : List ℕ) → take (length (first_line log)) log ≡ first_line log
 first-is-front log =
     ap (take (length (first_line log))) (sym (first-and-after log)) ∙ take-append_seam (first_line log) (after_first log)
 
 -- and what stands behind it is the rest
-after-is-rest : (log : List ℕ) → drop (length (first_line log)) log ≡ after_first log
+pub after-is-rest : (log : List ℕ) → drop (length (first_line log)) log ≡ after_first log
 after-is-rest log =
     ap (drop (length (first_line log))) (sym (first-and-after log)) ∙ drop-append_seam (first_line log) (after_first log)
 
@@ -94,6 +96,52 @@ first-end (x ∷ log) = go (is_end x) (first-end log)
         → suc (length (cond b [] (first_line log))) ≡ min (cond (not b) (1 + position_or_len is_end log) 0 + 1) (suc (length log))
     go true h = omega arith
     go false h = omega (arith, h)
+
+-- a byte of a front that ends a line is the last of the first line
+first-near : (front rest : List ℕ) → position_or_len is_end front < length front → length (first_line (front ++ rest)) ≡ position_or_len is_end front + 1
+unfolding first_line
+first-near [] rest h = absurd (omega (arith, h))
+first-near (x ∷ front) rest h = go (is_end x) (first-near front rest) h
+  where
+    go : (b : Bool) → (position_or_len is_end front < length front → length (first_line (front ++ rest)) ≡ position_or_len is_end front + 1)
+        → cond (not b) (1 + position_or_len is_end front) 0 < suc (length front)
+        → suc (length (cond b [] (first_line (front ++ rest)))) ≡ cond (not b) (1 + position_or_len is_end front) 0 + 1
+    go true more h = refl
+    go false more h = let e = more (omega (arith, h)) in omega (arith, e)
+
+-- a front in which no line ends makes the first line so much longer
+first-far : (front rest : List ℕ) → length front ≤ position_or_len is_end front → length (first_line (front ++ rest)) ≡ length front + length (first_line rest)
+unfolding first_line
+first-far [] rest h = omega arith
+first-far (x ∷ front) rest h = go (is_end x) (first-far front rest) h
+  where
+    go : (b : Bool) → (length front ≤ position_or_len is_end front → length (first_line (front ++ rest)) ≡ length front + length (first_line rest))
+        → suc (length front) ≤ cond (not b) (1 + position_or_len is_end front) 0
+        → suc (length (cond b [] (first_line (front ++ rest)))) ≡ suc (length front) + length (first_line rest)
+    go true more h = absurd (omega (arith, h))
+    go false more h = let e = more (omega (arith, h)) in omega (arith, e)
+
+-- what a search of a front tells: the first place at which a line ends, if there is one
+abbrev pub near_end : List ℕ → Option ℕ
+near_end front = cond (ltb (position_or_len is_end front) (length front)) (Some (position_or_len is_end front)) None
+
+-- where it finds one the first line ends there
+pub first-found : (log front rest : List ℕ) (at : ℕ) → log ≡ front ++ rest → near_end front ≡ Some at → length (first_line log) ≡ at + 1
+first-found log front rest at e found = rw e (go (ltb (position_or_len is_end front) (length front)) refl found)
+  where
+    go : (b : Bool) → ltb (position_or_len is_end front) (length front) ≡ b → cond b (Some (position_or_len is_end front)) None ≡ Some at
+        → length (first_line (front ++ rest)) ≡ at + 1
+    go true t f = let n = first-near front rest (ltb-true _ _ t) in let s = ap (λ r. option_map_or (λ place. place) r 0) f in omega (arith, n, s)
+    go false t f = absurd (none-some at f)
+
+-- where it finds none the first line is so much longer
+pub first-passed : (log front rest : List ℕ) → log ≡ front ++ rest → near_end front ≡ None → length (first_line log) ≡ length front + length (first_line rest)
+first-passed log front rest e found = rw e (go (ltb (position_or_len is_end front) (length front)) refl found)
+  where
+    go : (b : Bool) → ltb (position_or_len is_end front) (length front) ≡ b → cond b (Some (position_or_len is_end front)) None ≡ None
+        → length (first_line (front ++ rest)) ≡ length front + length (first_line rest)
+    go true t f = absurd (none-some (position_or_len is_end front) (sym f))
+    go false t f = first-far front rest (ltb-false _ _ t)
 
 -- so its length is what the search for that byte gives
 pub first_length : (log : List ℕ) (r : Option ℕ) → IsFirstByte (is_byte 0x0a) log r → length (first_line log) ≡ option_map_or (λ at. at + 1) r (length log)

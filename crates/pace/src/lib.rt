@@ -21,10 +21,8 @@ fn play<P: Player>(script: &[u8], out: &mut [u8]) -> usize
 {
     let mut stored = P::first();
     let mut met = 0;
-    for byte in script {
-        let (meets, next) = stored.step(*byte, out);
-        met += meets as usize;
-        stored = next;
+    for at in 0..script.len() {
+        met += stored.step(script, at, out) as usize;
     }
     met
 }

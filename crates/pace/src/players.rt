@@ -1,5 +1,5 @@
 // The two machines as players of a script.
-ghost use Rattle.std.specs.Prelude.{◌≡◌};
+ghost use Rattle.std.specs.Prelude.{◌≡◌, ◌<◌, length, slice_index_or};
 ghost use Rattle.pace.specs.Script.{meets_row};
 ghost use Rattle.pace.specs.Played.{Play, private_play, group_play};
 
@@ -16,11 +16,13 @@ pub(crate) trait Player: Copy {
     fn first() -> Self
         ensures { result ≡ play.first };
 
-    // Takes the step that a byte names, with a lent buffer: whether that meets a row, and what is stored then.
-    fn step(self, byte: u8, out: &mut [u8]) -> (bool, Self)
-        ensures meets { result.0 ≡ meets_row (play.row self byte out.old) }
-        ensures next { result.1 ≡ play.next self byte out.old }
-        ensures out_after { out.new ≡ play.buffer self byte out.old };
+    // Takes the step that the byte at a place of a script names, with a lent buffer, and stores what comes of it:
+    // whether that meets a row.
+    fn step(&mut self, script: &[u8], at: usize, out: &mut [u8]) -> bool
+        requires { at < length script.now }
+        ensures meets { result ≡ meets_row (play.row self.old (slice_index_or script.now at 0) out.old) }
+        ensures next { self.new ≡ play.next self.old (slice_index_or script.now at 0) out.old }
+        ensures out_after { out.new ≡ play.buffer self.old (slice_index_or script.now at 0) out.old };
 }
 
 impl Player for PrivateRecord {
@@ -32,11 +34,12 @@ impl Player for PrivateRecord {
     }
 
     // A step of the private machine.
-    fn step(self, byte: u8, out: &mut [u8]) -> (bool, PrivateRecord) {
-        match private_call::step(CREW, self, private_input(byte), out) {
-            Ok(stepped) => (stepped.row.is_some(), stepped.next),
-            Err(_) => (false, self),
-        }
+    fn step(&mut self, script: &[u8], at: usize, out: &mut [u8]) -> bool {
+        let Ok(stepped) = private_call::step(CREW, *self, private_input(script[at]), out) else {
+            return false;
+        };
+        *self = stepped.next;
+        stepped.row.is_some()
     }
 }
 
@@ -49,10 +52,11 @@ impl Player for GroupRecord {
     }
 
     // A step of the group machine.
-    fn step(self, byte: u8, out: &mut [u8]) -> (bool, GroupRecord) {
-        match group_call::step(CREW, self, group_input(byte), out) {
-            Ok(stepped) => (stepped.row.is_some(), stepped.next),
-            Err(_) => (false, self),
-        }
+    fn step(&mut self, script: &[u8], at: usize, out: &mut [u8]) -> bool {
+        let Ok(stepped) = group_call::step(CREW, *self, group_input(script[at]), out) else {
+            return false;
+        };
+        *self = stepped.next;
+        stepped.row.is_some()
     }
 }

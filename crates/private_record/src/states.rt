@@ -1,11 +1,10 @@
 // The private record: its state, its running timers, its counters and its call; and the phases.
 ghost use Rattle.std.specs.Prelude.{◌≡◌, refl};
 ghost use Rattle.private_record.specs.Formed.{cleared_record};
-ghost use Rattle.call.specs.Timing.{timer_facts};
-ghost use Rattle.call.specs.declared.PrivateTimer.{PrivateTimer};
+ghost use Rattle.call.specs.Timing.{set_by};
 ghost use Rattle.private_record.specs.Phases.{has, set_of, phase_of, running_of};
 
-use call::timers::{SetByRule, TimerFacts, TimerSet, TimerSets};
+use call::timers::{SetByRule, TimerRule, TimerSet, TimerSets};
 use call::{Counters, PrivateTimer};
 use frame::{Media, Parties};
 
@@ -101,17 +100,16 @@ impl SetByRule for Timers {
     ghost set_of = { set_of };
 
     // The set of the timers that a rule takes.
-    fn by_rule<F: Fn(TimerFacts) -> bool>(sets: TimerSets<Timers>, rule: F) -> Timers
-        requires { F.IsAlwaysCallable rule }
-        ensures { (timer : PrivateTimer) → F.post rule (timer_facts has sets timer) (has result timer) }
+    fn by_rule(sets: TimerSets<Timers>, rule: TimerRule) -> Timers
+        ensures { result ≡ set_by has set_of rule sets }
     {
         Timers {
-            tfp1: rule(sets.of(PrivateTimer::Tfp1)),
-            tfp2: rule(sets.of(PrivateTimer::Tfp2)),
-            tfp3: rule(sets.of(PrivateTimer::Tfp3)),
-            tfp4: rule(sets.of(PrivateTimer::Tfp4)),
-            tfp5: rule(sets.of(PrivateTimer::Tfp5)),
-            tfp7: rule(sets.of(PrivateTimer::Tfp7)),
+            tfp1: sets.of(PrivateTimer::Tfp1).is_taken_by(rule),
+            tfp2: sets.of(PrivateTimer::Tfp2).is_taken_by(rule),
+            tfp3: sets.of(PrivateTimer::Tfp3).is_taken_by(rule),
+            tfp4: sets.of(PrivateTimer::Tfp4).is_taken_by(rule),
+            tfp5: sets.of(PrivateTimer::Tfp5).is_taken_by(rule),
+            tfp7: sets.of(PrivateTimer::Tfp7).is_taken_by(rule),
         }
     }
 

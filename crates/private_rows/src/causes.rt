@@ -1,6 +1,6 @@
 // What happens, and what a row may ask besides.
 ghost use Rattle.std.specs.Prelude.{◌≡◌};
-ghost use Rattle.private_record.specs.Phases.{phase_of, count_of};
+ghost use Rattle.private_record.specs.Phases.{count_of};
 ghost use Rattle.private_rows.specs.Causes.{setup_cause, message_cause, cause_of, same_identifier, same_call};
 ghost use Rattle.private_rows.specs.Causes.{message_same, same_of, pck_asked, trusted as trusted_by, facts_of};
 
@@ -168,10 +168,14 @@ fn count_of(phase: Phase, counters: Counters) -> u8
 }
 
 // What a row may ask.
-pub(crate) fn facts_of(settings: Settings, stored: PrivateRecord, input: Input) -> Facts
-    ensures { result ≡ facts_of settings (phase_of stored) stored.counters stored.call input }
+pub(crate) fn facts_of(
+    settings: Settings,
+    phase: Phase,
+    stored: PrivateRecord,
+    input: Input,
+) -> Facts
+    ensures { result ≡ facts_of settings phase stored.counters stored.call input }
 {
-    let phase = stored.phase();
     let request = request_of(settings, input.event);
     let pck_id = pck_asked(input.event, request, stored.call.pck_id);
     Facts {

@@ -4,8 +4,8 @@
 mod causes;
 mod rows;
 
-ghost use Rattle.std.specs.Prelude.{◌≡◌};
-ghost use Rattle.private_rows.specs.Rows.{row_of};
+ghost use Rattle.std.specs.Prelude.{◌≡◌, Some};
+ghost use Rattle.private_rows.specs.Rows.{row_number, row_of};
 
 use crate::causes::{cause_of, facts_of};
 use crate::rows::row_in;
@@ -46,13 +46,23 @@ pub enum Row {
     R29 = 29,
 }
 
+impl Row {
+    // Its number.
+    pub fn number(self) -> u8
+        ensures { result ≡ row_number (Some self) }
+    {
+        self as u8
+    }
+}
+
 // The row that an event meets from a record, if it meets one.
 pub fn row_of(settings: Settings, stored: PrivateRecord, input: Input) -> Option<Row>
     ensures { result ≡ row_of settings stored input }
 {
+    let phase = stored.phase();
     row_in(
-        stored.phase(),
+        phase,
         cause_of(settings, input.event),
-        facts_of(settings, stored, input),
+        facts_of(settings, phase, stored, input),
     )
 }

@@ -1,6 +1,6 @@
 // Which row is met.
 ghost use Rattle.std.specs.Prelude.{◌≡◌};
-ghost use Rattle.private_rows.specs.Found.{setup_row};
+ghost use Rattle.private_rows.specs.Found.{setup_row, found_at};
 ghost use Rattle.private_rows.specs.Rows.{row_in};
 
 use crate::Row;
@@ -11,7 +11,8 @@ use private_record::states::Phase::{P0, P1, P2Tfp1, P2Tfp2, P3, P4, P5Tfp2, P5Tf
 // The row that is met in a phase.
 #[tactic(auto, unfolding(crate::specs::Rows::row_in))]
 pub(crate) fn row_in(phase: Phase, cause: Cause, facts: Facts) -> Option<Row>
-    ensures { result ≡ row_in phase cause facts }
+    ensures met { result ≡ row_in phase cause facts }
+    ensures found { result ≡ found_at phase cause facts }
 {
     match (cause, phase) {
         (Cause::UserStarts, P0 | P1) => Some(Row::R1),

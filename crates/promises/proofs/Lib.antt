@@ -5,5 +5,6 @@ pub mod Known
 pub mod OneAnswer
 pub mod OneAnswerLines
 pub mod OneAnswerMachines
+pub mod OneAnswerTraits
 pub mod OneAnswerC
 pub mod Entries

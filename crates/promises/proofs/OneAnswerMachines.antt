@@ -15,17 +15,20 @@ use Rattle.call.proofs.Request.private.Reads as request-private
 use Rattle.call.proofs.Settings.restricted.Reads as settings-restricted
 use Rattle.call.proofs.timers.TimerFacts.is_stopped.Reads as timer-is-stopped
 use Rattle.call.proofs.timers.TimerFacts.runs_after.Reads as timer-runs-after
+use Rattle.call.proofs.timers.TimerFacts.is_taken_by.Reads as timer-is-taken-by
 use Rattle.call.proofs.timers.TimerSets.of.Reads as timer-sets-of
 use Rattle.call.proofs.timers.TimerSets.stopped.Reads as timer-sets-stopped
 use Rattle.call.proofs.timers.TimerSets.running_after.Reads as timer-sets-running-after
 use Rattle.stepping.proofs.Given as Given
 use Rattle.stepping.proofs.number_before_row.Reads as number-before-row
 use Rattle.stepping.proofs.write_sent.Reads as write-sent
+use Rattle.stepping.proofs.Stepped.of.Reads as stepped-of
 use Rattle.private_record.specs.Phases as Phases
 use Rattle.private_record.proofs.well_formed.Reads as well-formed
 use Rattle.private_record.proofs.states.PrivateRecord.cleared.Reads as private-cleared
 use Rattle.private_record.proofs.states.PrivateRecord.phase.Reads as private-phase
 use Rattle.private_rows.specs.Rows as PrivateRows
+use Rattle.private_rows.proofs.Row.number.Reads as private-row-number
 use Rattle.private_rows.proofs.row_of.Reads as row_of
 use Rattle.private_call.proofs.step.Reads as step
 use Rattle.group_order.proofs.rank.Reads as rank
@@ -34,6 +37,7 @@ use Rattle.group_record.specs.States as GroupStates
 use Rattle.group_record.proofs.well_formed.Reads as group-well-formed
 use Rattle.group_record.proofs.states.GroupRecord.cleared.Reads as group-cleared
 use Rattle.group_rows.specs.Rows as GroupRows
+use Rattle.group_rows.proofs.Row.number.Reads as group-row-number
 use Rattle.group_rows.proofs.row_of.Reads as group-row-of
 use Rattle.group_call.proofs.step.Reads as group-step
 use Rattle.chooser.specs.Choice.{place}
@@ -68,6 +72,10 @@ timer-is-stopped-one κs = result-alone (λ a. tt) (λ a r q s t x y. same x y)
 pub timer-runs-after-one : (κs : Lifetimes.Lfts 0) → OneAnswer (timer-runs-after.Asked κs) (timer-runs-after.Learnt κs) (λ r. r) (λ t. tt {0})
 timer-runs-after-one κs = result-alone (λ a. tt) (λ a r q s t x y. same x y)
 
+-- whether a rule takes a timer
+pub timer-is-taken-by-one : (κs : Lifetimes.Lfts 0) → OneAnswer (timer-is-taken-by.Asked κs) (timer-is-taken-by.Learnt κs) (λ r. r) (λ t. tt {0})
+timer-is-taken-by-one κs = result-alone (λ a. tt) (λ a r q s t x y. same x y)
+
 -- of the timers of whatever machine: a set's laws and those of a timer, and what their types say of themselves; each type has its own lifetimes
 module _ (Set Timer : RattleType) (laws : Laws Set) (timer_laws : Laws Timer) (copied : IsCopy Set) (timer_copied : IsCopy Timer) (by_rule : SetByRule.Ghosts Set.Denot Timer.Denot) (by_rule_dict : Dict) (has : TimerSet.Ghosts Set.Denot Timer.Denot) (has_dict : Dict) (cloned : Clone.Ghosts Set.Denot) (cloned_dict : Dict) (timer_cloned : Clone.Ghosts Timer.Denot) (timer_cloned_dict : Dict) where
   -- what the rules ask of one timer
@@ -90,6 +98,11 @@ number-before-row-one κs = result-alone (λ a. tt) (λ a r q s t x y. same-answ
 pub write-sent-one : (κs : Lifetimes.Lfts 1) → OneAnswer (write-sent.Asked κs) (write-sent.Learnt κs) (λ r. r) (λ t. t.1.1.0.now)
 write-sent-one κs = record { asks_nothing = λ a. tt; one_result = λ a r q s t x y. same-told r q (same x.0 y.0); one_exit = λ a r q s t x y. same x.1 y.1 }
 
+-- of a step of whatever machine, what each of its three types says of itself: what it did, by its answer
+module _ (Row Stored Timers : RattleType) (row_laws : Laws Row) (stored_laws : Laws Stored) (timers_laws : Laws Timers) (row_copied : IsCopy Row) (stored_copied : IsCopy Stored) (timers_copied : IsCopy Timers) (row_cloned : Clone.Ghosts Row.Denot) (row_cloned_dict : Dict) (stored_cloned : Clone.Ghosts Stored.Denot) (stored_cloned_dict : Dict) (timers_cloned : Clone.Ghosts Timers.Denot) (timers_cloned_dict : Dict) where
+  pub stepped-of-one : let κs : Lifetimes.Lfts 3 = (Row.lives, (Stored.lives, (Timers.lives, tt))) in OneAnswer (stepped-of.Asked Row Stored Timers row_laws stored_laws timers_laws row_copied stored_copied timers_copied row_cloned row_cloned_dict stored_cloned stored_cloned_dict timers_cloned timers_cloned_dict κs) (stepped-of.Learnt Row Stored Timers row_laws stored_laws timers_laws row_copied stored_copied timers_copied row_cloned row_cloned_dict stored_cloned stored_cloned_dict timers_cloned timers_cloned_dict κs) (λ r. r) (λ t. tt {0})
+  stepped-of-one = record { asks_nothing = λ a. (λ b c. c, (λ b c. c, λ b c. c)); one_result = λ a r q s t x y. same x y; one_exit = λ a r q s t x y. refl }
+
 -- whether a record is well formed
 pub well-formed-one : (κs : Lifetimes.Lfts 0) → OneAnswer (well-formed.Asked κs) (well-formed.Learnt κs) (λ r. r) (λ t. tt {0})
 well-formed-one κs = result-alone (λ a. tt) (λ a r q s t x y. same x y)
@@ -101,6 +114,10 @@ private-cleared-one κs = result-alone (λ a. tt) (λ a r q s t x y. same x y)
 -- the phase of a record
 pub private-phase-one : (κs : Lifetimes.Lfts 0) → OneAnswer (private-phase.Asked κs) (private-phase.Learnt κs) (λ r. r) (λ t. tt {0})
 private-phase-one κs = result-alone (λ a. tt) (λ a r q s t x y. same x y)
+
+-- the number of a row
+pub private-row-number-one : (κs : Lifetimes.Lfts 0) → OneAnswer (private-row-number.Asked κs) (private-row-number.Learnt κs) (λ r. r) (λ t. tt {0})
+private-row-number-one κs = result-alone (λ a. tt) (λ a r q s t x y. same x y)
 
 -- the row that an event meets
 pub row-of-one : (κs : Lifetimes.Lfts 0) → OneAnswer (row_of.Asked κs) (row_of.Learnt κs) (λ r. r) (λ t. tt {0})
@@ -137,6 +154,10 @@ group-well-formed-one κs = result-alone (λ a. tt) (λ a r q s t x y. same x y)
 -- the cleared group record
 pub group-cleared-one : (κs : Lifetimes.Lfts 0) → OneAnswer (group-cleared.Asked κs) (group-cleared.Learnt κs) (λ r. r) (λ t. tt {0})
 group-cleared-one κs = result-alone (λ a. tt) (λ a r q s t x y. same x y)
+
+-- the number of a row of the group machine
+pub group-row-number-one : (κs : Lifetimes.Lfts 0) → OneAnswer (group-row-number.Asked κs) (group-row-number.Learnt κs) (λ r. r) (λ t. tt {0})
+group-row-number-one κs = result-alone (λ a. tt) (λ a r q s t x y. same x y)
 
 -- the group row that an event meets
 pub group-row-of-one : (κs : Lifetimes.Lfts 0) → OneAnswer (group-row-of.Asked κs) (group-row-of.Learnt κs) (λ r. r) (λ t. tt {0})

@@ -1,5 +1,5 @@
 -- What a step of either machine tells, in numbers. Assumes nothing.
-use Rattle.std.specs.Prelude.{ℕ, Option, Result, Ok, Err}
+use Rattle.std.specs.Prelude.{ℕ, Option, None, Result, Ok, Err}
 use Rattle.frame.specs.Refusal.{refusal_number}
 use Rattle.frame.specs.declared.refusal.Refusal.{Refusal}
 use Rattle.stepping.specs.declared.Stepped.{Stepped}
@@ -28,3 +28,8 @@ abbrev pub answer_by : {Row Stored Timers : Type 0} → (Option Row → ℕ) →
 answer_by row_number none stored (Ok done) =
     record { number = 0; row = row_number done.row; next = done.next; stop = done.stop; start = done.start; length = done.length }
 answer_by row_number none stored (Err refusal) = refused_with none stored (refusal_number refusal)
+
+-- what a step from a stored record did, by its answer; where it is refused, nothing: the record as it was, no row, no timer, length 0
+abbrev pub done_by : {Row Stored Timers : Type 0} → Timers → Stored → Result (Stepped Row Stored Timers) Refusal → Stepped Row Stored Timers
+done_by none stored (Ok done) = done
+done_by none stored (Err refusal) = record { row = None; next = stored; stop = none; start = none; length = 0 }

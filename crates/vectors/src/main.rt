@@ -72,12 +72,10 @@ fn show(rt: &HostRuntime, out: &[u8], told: usize) {
 // One step of the private call machine: shows the line that it sends, and gives the next record.
 fn private_step(rt: &HostRuntime, stored: PrivateRecord, taken: Input) -> PrivateRecord {
     let mut out = [0u8; Message::LONGEST];
-    let (next, length) = match private_call::step(CREW, stored, taken, &mut out) {
-        Ok(stepped) => (stepped.next, stepped.length),
-        Err(_) => (stored, 0),
-    };
-    show(rt, &out, length);
-    next
+    let answer = private_call::step(CREW, stored, taken, &mut out);
+    let done = private_call::Stepped::of(answer, stored, private_record::states::Timers::NONE);
+    show(rt, &out, done.length);
+    done.next
 }
 
 // The private call: user 7 starts it, hears the accept of user 9, and ends it.
@@ -98,16 +96,10 @@ fn play_private_call(rt: &HostRuntime) {
 fn play_group_call(rt: &HostRuntime) {
     let start = Event::Action(Action::Group(GroupAction::Start(GROUP_START)));
     let mut out = [0u8; Message::LONGEST];
-    let length = match group_call::step(
-        CREW,
-        GroupRecord::cleared(),
-        input(start, MEDIA),
-        &mut out,
-    ) {
-        Ok(announced) => announced.length,
-        Err(_) => 0,
-    };
-    show(rt, &out, length);
+    let stored = GroupRecord::cleared();
+    let answer = group_call::step(CREW, stored, input(start, MEDIA), &mut out);
+    let done = group_call::Stepped::of(answer, stored, group_record::states::Timers::NONE);
+    show(rt, &out, done.length);
 }
 
 // The private call, then the group call.

@@ -13,7 +13,7 @@ use Rattle.group_rows.specs.Rows.{row_number, row_of}
 use Rattle.group_rows.specs.declared.Row.{Row}
 use Rattle.group_call.specs.Carried.{carry_out}
 use Rattle.group_call.specs.Step.{change_too_early, answer_told, done_of, moved_of}
-use Rattle.group_call.proofs.Answers.{handed-up, refused-first, refused-by-row, refused-sending, carried-out}
+use Rattle.group_call.proofs.Answers.{handed-up, first-refusal, refused-by-row, sending-refusal, carried-out}
 use Rattle.group_call.proofs.Steps.{answered-at-once}
 use Rattle.group_call.proofs.step.Goals as goal
 
@@ -45,7 +45,7 @@ pub returns-in_err-number_before_row : goal.returns-in_err-number_before_row
 returns-in_err-number_before_row c =
     let a = c.args in
     let n = number a.settings a.stored a.input _ _ c.well_formed-2.ensures c.in_err-number_before_row.ensures in
-    let r = refused-first a.settings a.stored a.input a.out.now _ n in
+    let r = first-refusal a.settings a.stored a.input a.out.now _ n in
     record { value = ap (answer_told a.stored) (handed-up _ _ c.from_residual.ensures.1) ∙ r.0; out_after = r.1 }
 
 pub returns-in_default : goal.returns-in_default
@@ -71,7 +71,7 @@ returns-in_err-length c =
     let d = done a.settings a.stored a.input _ _ c.in-Some.ensures c.carry_out-done.ensures in
     let w = told _ _ a.out.now _ d c.in_err-length.ensures.value in
     let b = left _ _ a.out.now _ d c.in_err-length.ensures.out_after in
-    let r = refused-sending a.settings a.stored a.input a.out.now (sym n) t _ (ap (λ (x : Written). x.number) w) in
+    let r = sending-refusal a.settings a.stored a.input a.out.now (sym n) t _ (ap (λ (x : Written). x.number) w) in
     record { value = ap (answer_told a.stored) (handed-up _ _ c.from_residual-in_err-length.ensures.1) ∙ r.0; out_after = b ∙ r.1 }
 
 pub returns : goal.returns

@@ -2,5 +2,5 @@
 use Rattle.pace.proofs.Turns.{SoFar}
 use Rattle.pace.proofs.play.Given as goal
 
-abbrev pub invariant-loop-byte : goal.invariant-loop-byte
-invariant-loop-byte g l = SoFar g.P.Player.play l.script l.fn.out l.out l.stored l.met l.byte-index
+abbrev pub invariant-loop-at : goal.invariant-loop-at
+invariant-loop-at g l = SoFar g.P.Player.play l.script l.fn.out l.out l.stored l.met l.at

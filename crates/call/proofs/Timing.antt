@@ -1,5 +1,5 @@
 -- The rules for a timer, for each that may be stopped. Assumes nothing.
-use mathlib.Core.Path.{◌≡◌, refl}
+use mathlib.Core.Path.{◌≡◌, refl, sym, ap, ◌∙◌}
 use mathlib.Core.Bool.{Bool, true, false, not, ◌&&◌, ◌||◌}
 use Rattle.call.specs.Timing.{is_stopped, runs_after}
 use Rattle.call.specs.declared.timers.TimerFacts.{TimerFacts}
@@ -31,3 +31,8 @@ stops-none x a b = rw (a, b) (go x.was_running x.ran_out)
 pub runs-on-one : (x : TimerFacts) → x.started ≡ false → x.stop_asked ≡ false → x.state_changes ≡ false
     → runs_after x ≡ (x.was_running && not x.ran_out)
 runs-on-one x a b c = λ j. a j || (x.was_running && (not (stops-none x b c j) && not x.ran_out))
+
+-- a set is that of the timers that pass a test, where those are its timers
+pub of-test : {Set Timer : Type 0} (has : Set → Timer → Bool) (set_of : (Timer → Bool) → Set) (set : Set) (test : Timer → Bool)
+    → set_of (has set) ≡ set → ((t : Timer) → has set t ≡ test t) → set ≡ set_of test
+of-test has set_of set test e f = sym e ∙ ap set_of (λ j t. f t j)

@@ -75,7 +75,8 @@ pub trait SetByRule: TimerSet {
     // The set of the timers that a rule takes, each by what the rules ask of it.
     // No closure for the rule: a call of one needs a `requires`, and no public function has any.
     fn by_rule(sets: TimerSets<Self>, rule: TimerRule) -> Self
-        ensures { result ≡ set_by Self.has set_of rule sets };
+        ensures timers { (timer : Self.Timer) → Self.has result timer ≡ taken_by rule (timer_facts Self.has sets timer) }
+        ensures set { result ≡ set_by Self.has set_of rule sets };
 
     // A set has its timers, and nothing else.
     ghost its_timers: { (set : Self) → set_of (Self.has set) ≡ set };

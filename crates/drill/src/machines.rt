@@ -64,8 +64,7 @@ impl Record {
         match self {
             Record::Private(record) => {
                 let answer = private_call::step(settings, record, input, lent);
-                let none = private_record::states::Timers::NONE;
-                let done = private_call::Stepped::of(answer, record, none);
+                let done = private_call::done(record, answer);
                 let told = Stepped {
                     row: done.row.map(|row| Row::Private(row)),
                     next: Record::Private(done.next),
@@ -77,8 +76,7 @@ impl Record {
             }
             Record::Group(record) => {
                 let answer = group_call::step(settings, record, input, lent);
-                let none = group_record::states::Timers::NONE;
-                let done = group_call::Stepped::of(answer, record, none);
+                let done = group_call::done(record, answer);
                 let told = Stepped {
                     row: done.row.map(|row| Row::Group(row)),
                     next: Record::Group(done.next),

@@ -23,7 +23,7 @@ const MOST_NAMES: usize = 16;
 
 impl<'a> Words<'a> {
     // What was there, with all that the words name set.
-    // The names that were given are kept: to look for them among the words again would take a walk of the line for each.
+    // The names that were given are kept: to look for one among the words again would take a walk of the line.
     pub(crate) fn named<N: Names>(self, mut fields: N) -> Result<N, Fault> {
         let mut names: [&[u8]; MOST_NAMES] = [&[]; MOST_NAMES];
         for (count, word) in self.enumerate() {

@@ -137,8 +137,8 @@ fn write_timers<W: fmt::Write>(
     Ok(())
 }
 
-// A step as it is told: whose turn it was, the record ahead of it, its number, what it did, the line that it sent, and how many
-// bytes at the end of the lent buffer are as they were.
+// A step as it is told: whose turn it was, the record ahead of it, its number, what it did, the line that it sent, and
+// how many bytes at the end of the lent buffer are as they were.
 #[derive(Clone, Copy)]
 pub(crate) struct Step<'a> {
     pub(crate) turn: Turn,

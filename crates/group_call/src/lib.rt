@@ -5,6 +5,8 @@ mod carrying;
 mod effects;
 
 ghost use Rattle.std.specs.Prelude.{◌≡◌, Some};
+ghost use Rattle.stepping.specs.Answer.{nothing_done, done_by};
+ghost use Rattle.group_record.specs.States.{no_timer};
 ghost use Rattle.group_call.specs.Step.{change_too_early, answer_told, step_of, step_buffer};
 
 use crate::carrying::{carry_out, later};
@@ -25,6 +27,19 @@ fn change_too_early(settings: Settings, stored: GroupRecord, event: Event, row: 
     row == Row::G9 && !later(announced_of(settings, event).call, stored.call)
 }
 
+// What a step does that is refused or meets no row: nothing.
+fn nothing(stored: GroupRecord) -> Stepped
+    ensures { result ≡ nothing_done no_timer stored }
+{
+    Stepped {
+        row: None,
+        next: stored,
+        stop: Timers::NONE,
+        start: Timers::NONE,
+        length: 0,
+    }
+}
+
 // A step of the group call machine; where it is refused the record stays.
 // Not said once with the private machine's: a trait would declare five functions with their definitions for this body.
 // A lent buffer and a length, no Vec, as in the writer.
@@ -39,13 +54,7 @@ pub fn step(
 {
     number_before_row(settings, well_formed(settings, stored), input)?;
     let Some(row) = row_of(settings, stored, input.event) else {
-        return Ok(Stepped {
-            row: None,
-            next: stored,
-            stop: Timers::NONE,
-            start: Timers::NONE,
-            length: 0,
-        });
+        return Ok(nothing(stored));
     };
     if change_too_early(settings, stored, input.event, row) {
         return Err(Refusal::WrongArgument);
@@ -59,4 +68,14 @@ pub fn step(
         start: done.start,
         length,
     })
+}
+
+// What a step from a record did, by its answer: where it was refused, nothing, and the record stays.
+pub fn done(stored: GroupRecord, answer: Result<Stepped, Refusal>) -> Stepped
+    ensures { result ≡ done_by no_timer stored answer }
+{
+    match answer {
+        Ok(stepped) => stepped,
+        Err(_) => nothing(stored),
+    }
 }

@@ -1,6 +1,7 @@
 // The group record: its state, its running timers, its call and the call's media.
 ghost use Rattle.std.specs.Prelude.{◌≡◌, refl};
-ghost use Rattle.call.specs.Timing.{set_by};
+ghost use Rattle.call.specs.Timing.{taken_by, timer_facts, set_by};
+ghost use Rattle.call.specs.declared.GroupTimer.{GroupTimer};
 ghost use Rattle.group_record.specs.States.{has, set_of, running_of};
 ghost use Rattle.group_record.specs.Formed.{cleared_record};
 
@@ -92,7 +93,8 @@ impl SetByRule for Timers {
 
     // The set of the timers that a rule takes.
     fn by_rule(sets: TimerSets<Timers>, rule: TimerRule) -> Timers
-        ensures { result ≡ set_by has set_of rule sets }
+        ensures timers { (timer : GroupTimer) → has result timer ≡ taken_by rule (timer_facts has sets timer) }
+        ensures set { result ≡ set_by has set_of rule sets }
     {
         Timers {
             tfg2: sets.of(GroupTimer::Tfg2).is_taken_by(rule),

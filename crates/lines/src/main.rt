@@ -13,8 +13,8 @@ const MOST: usize = 65_536;
 const ROOM: usize = 3 * MOST;
 
 // Reads standard input to its first end, or as far as there is room; how many bytes came. A read that fails is told.
-// A fixed room, no Vec, and a count: so the program takes no heap, and none can be wanting. Drill reads its script so: a
-// crate for both would be longer than the lines that it saves.
+// A fixed room, no Vec, and a count: so the program takes no heap, and none can be wanting. Drill reads its script so:
+// a crate for both would be longer than the lines that it saves.
 fn read_full(input: &mut impl Read, room: &mut [u8; MOST]) -> io::Result<usize>
     ensures { IfOk result (λ length. length ≤ 65536) }
 {

@@ -6,6 +6,8 @@ mod effects;
 mod timers;
 
 ghost use Rattle.std.specs.Prelude.{◌≡◌, Some};
+ghost use Rattle.stepping.specs.Answer.{nothing_done, done_by};
+ghost use Rattle.private_record.specs.Phases.{no_timer};
 ghost use Rattle.private_call.specs.Step.{identifier_taken, answer_told, step_of, step_buffer};
 
 use crate::carrying::carry_out;
@@ -27,6 +29,19 @@ fn identifier_taken(settings: Settings, stored: PrivateRecord, event: Event, row
         && request_of(settings, event).parties.identifier == stored.call.parties.identifier
 }
 
+// What a step does that is refused or meets no row: nothing.
+fn nothing(stored: PrivateRecord) -> Stepped
+    ensures { result ≡ nothing_done no_timer stored }
+{
+    Stepped {
+        row: None,
+        next: stored,
+        stop: Timers::NONE,
+        start: Timers::NONE,
+        length: 0,
+    }
+}
+
 // A step of the private call machine; where it is refused the record stays.
 // Not said once with the group machine's: a trait would declare five functions with their definitions for this body.
 // A lent buffer and a length, no Vec, as in the writer.
@@ -41,13 +56,7 @@ pub fn step(
 {
     number_before_row(settings, well_formed(settings, stored), input)?;
     let Some(row) = row_of(settings, stored, input) else {
-        return Ok(Stepped {
-            row: None,
-            next: stored,
-            stop: Timers::NONE,
-            start: Timers::NONE,
-            length: 0,
-        });
+        return Ok(nothing(stored));
     };
     if identifier_taken(settings, stored, input.event, row) {
         return Err(Refusal::WrongArgument);
@@ -61,4 +70,14 @@ pub fn step(
         start: done.start,
         length,
     })
+}
+
+// What a step from a record did, by its answer: where it was refused, nothing, and the record stays.
+pub fn done(stored: PrivateRecord, answer: Result<Stepped, Refusal>) -> Stepped
+    ensures { result ≡ done_by no_timer stored answer }
+{
+    match answer {
+        Ok(stepped) => stepped,
+        Err(_) => nothing(stored),
+    }
 }

@@ -1,7 +1,8 @@
 // The private record: its state, its running timers, its counters and its call; and the phases.
 ghost use Rattle.std.specs.Prelude.{◌≡◌, refl};
 ghost use Rattle.private_record.specs.Formed.{cleared_record};
-ghost use Rattle.call.specs.Timing.{set_by};
+ghost use Rattle.call.specs.Timing.{taken_by, timer_facts, set_by};
+ghost use Rattle.call.specs.declared.PrivateTimer.{PrivateTimer};
 ghost use Rattle.private_record.specs.Phases.{has, set_of, phase_of, running_of};
 
 use call::timers::{SetByRule, TimerRule, TimerSet, TimerSets};
@@ -101,7 +102,8 @@ impl SetByRule for Timers {
 
     // The set of the timers that a rule takes.
     fn by_rule(sets: TimerSets<Timers>, rule: TimerRule) -> Timers
-        ensures { result ≡ set_by has set_of rule sets }
+        ensures timers { (timer : PrivateTimer) → has result timer ≡ taken_by rule (timer_facts has sets timer) }
+        ensures set { result ≡ set_by has set_of rule sets }
     {
         Timers {
             tfp1: sets.of(PrivateTimer::Tfp1).is_taken_by(rule),

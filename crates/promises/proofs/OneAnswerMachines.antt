@@ -22,7 +22,6 @@ use Rattle.call.proofs.timers.TimerSets.running_after.Reads as timer-sets-runnin
 use Rattle.stepping.proofs.Given as Given
 use Rattle.stepping.proofs.number_before_row.Reads as number-before-row
 use Rattle.stepping.proofs.write_sent.Reads as write-sent
-use Rattle.stepping.proofs.Stepped.of.Reads as stepped-of
 use Rattle.private_record.specs.Phases as Phases
 use Rattle.private_record.proofs.well_formed.Reads as well-formed
 use Rattle.private_record.proofs.states.PrivateRecord.cleared.Reads as private-cleared
@@ -31,6 +30,7 @@ use Rattle.private_rows.specs.Rows as PrivateRows
 use Rattle.private_rows.proofs.Row.number.Reads as private-row-number
 use Rattle.private_rows.proofs.row_of.Reads as row_of
 use Rattle.private_call.proofs.step.Reads as step
+use Rattle.private_call.proofs.done.Reads as private-done
 use Rattle.group_order.proofs.rank.Reads as rank
 use Rattle.group_order.proofs.better.Reads as better
 use Rattle.group_record.specs.States as GroupStates
@@ -40,6 +40,7 @@ use Rattle.group_rows.specs.Rows as GroupRows
 use Rattle.group_rows.proofs.Row.number.Reads as group-row-number
 use Rattle.group_rows.proofs.row_of.Reads as group-row-of
 use Rattle.group_call.proofs.step.Reads as group-step
+use Rattle.group_call.proofs.done.Reads as group-done
 use Rattle.chooser.specs.Choice.{place}
 use Rattle.chooser.proofs.choice.Reads as choice
 use Rattle.chooser.proofs.choose_number.Reads as choose-number
@@ -98,11 +99,6 @@ number-before-row-one κs = result-alone (λ a. tt) (λ a r q s t x y. same-answ
 pub write-sent-one : (κs : Lifetimes.Lfts 1) → OneAnswer (write-sent.Asked κs) (write-sent.Learnt κs) (λ r. r) (λ t. t.1.1.0.now)
 write-sent-one κs = record { asks_nothing = λ a. tt; one_result = λ a r q s t x y. same-told r q (same x.0 y.0); one_exit = λ a r q s t x y. same x.1 y.1 }
 
--- of a step of whatever machine, what each of its three types says of itself: what it did, by its answer
-module _ (Row Stored Timers : RattleType) (row_laws : Laws Row) (stored_laws : Laws Stored) (timers_laws : Laws Timers) (row_copied : IsCopy Row) (stored_copied : IsCopy Stored) (timers_copied : IsCopy Timers) (row_cloned : Clone.Ghosts Row.Denot) (row_cloned_dict : Dict) (stored_cloned : Clone.Ghosts Stored.Denot) (stored_cloned_dict : Dict) (timers_cloned : Clone.Ghosts Timers.Denot) (timers_cloned_dict : Dict) where
-  pub stepped-of-one : let κs : Lifetimes.Lfts 3 = (Row.lives, (Stored.lives, (Timers.lives, tt))) in OneAnswer (stepped-of.Asked Row Stored Timers row_laws stored_laws timers_laws row_copied stored_copied timers_copied row_cloned row_cloned_dict stored_cloned stored_cloned_dict timers_cloned timers_cloned_dict κs) (stepped-of.Learnt Row Stored Timers row_laws stored_laws timers_laws row_copied stored_copied timers_copied row_cloned row_cloned_dict stored_cloned stored_cloned_dict timers_cloned timers_cloned_dict κs) (λ r. r) (λ t. tt {0})
-  stepped-of-one = record { asks_nothing = λ a. (λ b c. c, (λ b c. c, λ b c. c)); one_result = λ a r q s t x y. same x y; one_exit = λ a r q s t x y. refl }
-
 -- whether a record is well formed
 pub well-formed-one : (κs : Lifetimes.Lfts 0) → OneAnswer (well-formed.Asked κs) (well-formed.Learnt κs) (λ r. r) (λ t. tt {0})
 well-formed-one κs = result-alone (λ a. tt) (λ a r q s t x y. same x y)
@@ -126,6 +122,14 @@ row-of-one κs = result-alone (λ a. tt) (λ a r q s t x y. same x y)
 -- the answer of a step or why it is refused, and the buffer
 pub step-one : (κs : Lifetimes.Lfts 1) → OneAnswer (step.Asked κs) (step.Learnt κs) (λ r. r) (λ t. t.1.1.1.0.now)
 step-one κs = record { asks_nothing = λ a. tt; one_result = λ a r q s t x y. Given.same-answer PrivateRows.row_number private_row_with private-row-with Phases.no_timer a.1.0 r q (same x.0 y.0); one_exit = λ a r q s t x y. same x.1 y.1 }
+
+-- what a step did, by its answer
+pub private-done-one : (κs : Lifetimes.Lfts 0) → OneAnswer (private-done.Asked κs) (private-done.Learnt κs) (λ r. r) (λ t. tt {0})
+private-done-one κs = result-alone (λ a. tt) (λ a r q s t x y. same x y)
+
+-- the same of the group machine
+pub group-done-one : (κs : Lifetimes.Lfts 0) → OneAnswer (group-done.Asked κs) (group-done.Learnt κs) (λ r. r) (λ t. tt {0})
+group-done-one κs = result-alone (λ a. tt) (λ a r q s t x y. same x y)
 
 -- the rank of a type
 pub rank-one : (κs : Lifetimes.Lfts 0) → OneAnswer (rank.Asked κs) (rank.Learnt κs) (λ r. r) (λ t. tt {0})

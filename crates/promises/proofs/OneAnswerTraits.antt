@@ -51,8 +51,8 @@ group-has-one κs = result-alone (λ a. tt) (λ a r q s t x y. same x y)
 
 -- the set of the timers that a rule takes
 pub private-by-rule-one : (κs : Lifetimes.Lfts 0) → OneAnswer (private-by-rule.Asked κs) (private-by-rule.Learnt κs) (λ r. r) (λ t. tt {0})
-private-by-rule-one κs = result-alone (λ a. tt) (λ a r q s t x y. same x y)
+private-by-rule-one κs = result-alone (λ a. tt) (λ a r q s t x y. same x.1 y.1)
 
 -- the same of the group machine
 pub group-by-rule-one : (κs : Lifetimes.Lfts 0) → OneAnswer (group-by-rule.Asked κs) (group-by-rule.Learnt κs) (λ r. r) (λ t. tt {0})
-group-by-rule-one κs = result-alone (λ a. tt) (λ a r q s t x y. same x y)
+group-by-rule-one κs = result-alone (λ a. tt) (λ a r q s t x y. same x.1 y.1)

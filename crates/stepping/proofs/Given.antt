@@ -1,11 +1,20 @@
 -- A step's answer is known by what it tells, where a row is known by its number. Assumes nothing.
-use mathlib.Core.Path.{◌≡◌, sym, ap, ◌∙◌}
+use mathlib.Core.Path.{◌≡◌, refl, sym, ap, ◌∙◌}
 use Prim.Native.Nat.{ℕ}
-use Rattle.std.specs.Prelude.{Option, Result, Ok, Err}
+use Rattle.std.specs.Prelude.{Option, None, Result, Ok, Err}
+use Rattle.frame.specs.Refusal.{refusal_number, number_of}
 use Rattle.frame.specs.declared.refusal.Refusal.{Refusal}
 use Rattle.frame.proofs.Refusals.{answer_with, refused-with}
-use Rattle.stepping.specs.Answer.{Answer, answer_by}
+use Rattle.stepping.specs.Answer.{Answer, answer_by, done_by}
 use Rattle.stepping.specs.declared.Stepped.{Stepped}
+
+-- what a step tells is its number and what it did, where no row has the number 0
+pub told-by-done : {Row Stored Timers : Type 0} (row_number : Option Row → ℕ) (none : Timers) (stored : Stored) (a : Result (Stepped Row Stored Timers) Refusal) → row_number None ≡ 0
+    → let d = done_by none stored a in answer_by row_number none stored a
+    ≡ record { number = number_of a; row = row_number d.row; next = d.next; stop = d.stop; start = d.start; length = d.length }
+told-by-done row_number none stored (Ok done) e = refl
+told-by-done row_number none stored (Err refusal) e =
+    λ j. record { number = refusal_number refusal; row = sym e j; next = stored; stop = none; start = none; length = 0 }
 
 module _ {Row Stored Timers : Type 0} (row_number : Option Row → ℕ) (row_with : ℕ → Option Row) (back : (row : Option Row) → row_with (row_number row) ≡ row) (none : Timers) (stored : Stored) where
   -- the answer that tells this

@@ -29,7 +29,11 @@ answer_by row_number none stored (Ok done) =
     record { number = 0; row = row_number done.row; next = done.next; stop = done.stop; start = done.start; length = done.length }
 answer_by row_number none stored (Err refusal) = refused_with none stored (refusal_number refusal)
 
--- what a step from a stored record did, by its answer; where it is refused, nothing: the record as it was, no row, no timer, length 0
+-- what a step does that does nothing: the record as it was, no row, no timer, length 0
+abbrev pub nothing_done : {Row Stored Timers : Type 0} → Timers → Stored → Stepped Row Stored Timers
+nothing_done none stored = record { row = None; next = stored; stop = none; start = none; length = 0 }
+
+-- what a step from a stored record did, by its answer; where it is refused, nothing
 abbrev pub done_by : {Row Stored Timers : Type 0} → Timers → Stored → Result (Stepped Row Stored Timers) Refusal → Stepped Row Stored Timers
 done_by none stored (Ok done) = done
-done_by none stored (Err refusal) = record { row = None; next = stored; stop = none; start = none; length = 0 }
+done_by none stored (Err refusal) = nothing_done none stored

@@ -6,7 +6,6 @@ ghost use Rattle.std.specs.Prelude.{◌≡◌};
 ghost use Rattle.frame.specs.Refusal.{number_of};
 ghost use Rattle.call.specs.Settings.{limit_good, limits_good, settings_good};
 ghost use Rattle.writer.specs.Lent.{told_by};
-ghost use Rattle.stepping.specs.Answer.{done_by};
 ghost use Rattle.stepping.specs.Numbers.{heard_good, private_start_good, private_arguments_good, group_start_good};
 ghost use Rattle.stepping.specs.Numbers.{raise_good, group_arguments_good, action_good, arguments_good};
 ghost use Rattle.stepping.specs.Numbers.{number_before_row};
@@ -39,28 +38,6 @@ pub struct Stepped<Row, Record, Timers> {
     pub stop: Timers,
     pub start: Timers,
     pub length: usize,
-}
-
-impl<Row: Copy, Record: Copy, Timers: Copy> Stepped<Row, Record, Timers> {
-    // What a step from a stored record did, by its answer: where it was refused, nothing, and the record stays.
-    pub fn of(
-        answer: Result<Stepped<Row, Record, Timers>, Refusal>,
-        stored: Record,
-        no_timer: Timers,
-    ) -> Stepped<Row, Record, Timers>
-        ensures { result ≡ done_by no_timer stored answer }
-    {
-        match answer {
-            Ok(done) => done,
-            Err(_) => Stepped {
-                row: None,
-                next: stored,
-                stop: no_timer,
-                start: no_timer,
-                length: 0,
-            },
-        }
-    }
 }
 
 // ---- the settings

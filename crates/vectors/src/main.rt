@@ -73,7 +73,7 @@ fn show(rt: &HostRuntime, out: &[u8], told: usize) {
 fn private_step(rt: &HostRuntime, stored: PrivateRecord, taken: Input) -> PrivateRecord {
     let mut out = [0u8; Message::LONGEST];
     let answer = private_call::step(CREW, stored, taken, &mut out);
-    let done = private_call::Stepped::of(answer, stored, private_record::states::Timers::NONE);
+    let done = private_call::done(stored, answer);
     show(rt, &out, done.length);
     done.next
 }
@@ -98,7 +98,7 @@ fn play_group_call(rt: &HostRuntime) {
     let mut out = [0u8; Message::LONGEST];
     let stored = GroupRecord::cleared();
     let answer = group_call::step(CREW, stored, input(start, MEDIA), &mut out);
-    let done = group_call::Stepped::of(answer, stored, group_record::states::Timers::NONE);
+    let done = group_call::done(stored, answer);
     show(rt, &out, done.length);
 }
 

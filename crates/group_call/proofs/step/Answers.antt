@@ -1,11 +1,12 @@
 -- A step is refused by a test, met by no row, refused by G9, refused by the writer, or carried out. Assumes nothing.
-use Rattle.std.proofs.Common.{◌≡◌, ℕ, Bool, List, Some, sym, ap, ◌∙◌}
+use Rattle.std.proofs.Common.{◌≡◌, ℕ, Bool, List, Some, Ok, sym, ap, ◌∙◌}
 use Rattle.writer.specs.Lent.{Written}
 use Rattle.call.specs.declared.Settings.{Settings}
 use Rattle.call.specs.declared.Input.{Input}
 use Rattle.stepping.specs.Numbers.{number_before_row}
 use Rattle.stepping.specs.Sending.{send_told, send_buffer}
 use Rattle.stepping.specs.declared.Carried.{Carried}
+use Rattle.stepping.specs.declared.Stepped.{Stepped}
 use Rattle.group_record.specs.Formed.{is_well_formed}
 use Rattle.group_record.specs.declared.states.Timers.{Timers}
 use Rattle.group_record.specs.declared.states.GroupRecord.{GroupRecord}
@@ -53,7 +54,7 @@ returns-in_default c =
     let a = c.args in
     let n = number a.settings a.stored a.input _ _ c.well_formed-2.ensures c.in_ok-number_before_row.ensures in
     let r = answered-at-once a.settings a.stored a.input a.out.now (sym n) (sym (ap row_number c.in_default.ensures)) in
-    record { value = r.0; out_after = r.1 }
+    record { value = ap (λ (x : Stepped Row GroupRecord Timers). answer_told a.stored (Ok x)) c.nothing.ensures ∙ r.0; out_after = r.1 }
 
 pub returns-then-change_too_early : goal.returns-then-change_too_early
 returns-then-change_too_early c =

@@ -1,5 +1,5 @@
 -- A step is refused by a test, discarded, refused by R1, refused by the writer, or carried out. Assumes nothing.
-use Rattle.std.proofs.Common.{◌≡◌, ℕ, Bool, List, Some, sym, ap, ◌∙◌}
+use Rattle.std.proofs.Common.{◌≡◌, ℕ, Bool, List, Some, Ok, sym, ap, ◌∙◌}
 use Rattle.std.proofs.lemmas.Result.{err_from_is_err_and}
 use Rattle.writer.specs.Lent.{Written}
 use Rattle.call.specs.declared.Settings.{Settings}
@@ -7,6 +7,7 @@ use Rattle.call.specs.declared.Input.{Input}
 use Rattle.stepping.specs.Numbers.{number_before_row}
 use Rattle.stepping.specs.Sending.{send_told, send_buffer}
 use Rattle.stepping.specs.declared.Carried.{Carried}
+use Rattle.stepping.specs.declared.Stepped.{Stepped}
 use Rattle.stepping.proofs.Answers.{refusal-given}
 use Rattle.private_record.specs.Formed.{is_well_formed}
 use Rattle.private_record.specs.declared.states.Timers.{Timers}
@@ -14,7 +15,7 @@ use Rattle.private_record.specs.declared.states.PrivateRecord.{PrivateRecord}
 use Rattle.private_rows.specs.Rows.{row_of}
 use Rattle.private_rows.specs.declared.Row.{Row}
 use Rattle.private_call.specs.Carried.{carry_out}
-use Rattle.private_call.specs.Step.{identifier_taken, done_of, refused_of, moved_of}
+use Rattle.private_call.specs.Step.{identifier_taken, answer_told, done_of, refused_of, moved_of}
 use Rattle.private_call.proofs.Answers.{refused-first, refused-by-row, refused-sending, carried-out}
 use Rattle.private_call.proofs.Steps.{answered-at-once}
 use Rattle.private_call.proofs.step.Goals as goal
@@ -58,7 +59,7 @@ returns-in_default c =
     let a = c.args in
     let n = number a.settings a.stored a.input _ _ c.well_formed-2.ensures c.in_ok-number_before_row.ensures in
     let r = answered-at-once a.settings a.stored a.input a.out.now (sym n) (sym c.row_of.ensures ∙ c.in_default.is) in
-    record { value = r.0; out_after = r.1 }
+    record { value = ap (λ (x : Stepped Row PrivateRecord Timers). answer_told a.stored (Ok x)) c.nothing.ensures ∙ r.0; out_after = r.1 }
 
 pub returns-then-identifier_taken : goal.returns-then-identifier_taken
 returns-then-identifier_taken c =

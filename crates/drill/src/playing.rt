@@ -13,15 +13,8 @@ use std::io;
 // What the bytes of a lent buffer are ahead of a step: no byte of a line.
 const UNTOUCHED: u8 = b'.';
 
-// Rooms for the bytes of two lines that a command names: each holds more than a command has.
-// Fixed ones, no Vec: so the program takes no heap, and none can be wanting.
-#[derive(Drop)]
-struct Rooms {
-    first: [u8; MOST],
-    second: [u8; MOST],
-}
-
-// The line of these digits, with its line end or without it, at the front of a room.
+// The line of these digits, with its line end or without it, at the front of a room that holds more than a command has.
+// A fixed room, no Vec: so the program takes no heap, and none can be wanting.
 fn line_in<'a>(room: &'a mut [u8; MOST], digits: &[u8], ended: bool) -> &'a [u8] {
     let count = digits.len().min(MOST - 1);
     room[..count].copy_from_slice(&digits[..count]);
@@ -32,13 +25,9 @@ fn line_in<'a>(room: &'a mut [u8; MOST], digits: &[u8], ended: bool) -> &'a [u8]
 impl Shift {
     // Plays every line of a script.
     pub(crate) fn play(&mut self, rt: &impl Print, script: &[u8]) -> io::Result<()> {
-        let mut rooms = Rooms {
-            first: [0u8; MOST],
-            second: [0u8; MOST],
-        };
         for (command, line) in (1..).zip(script.split(|byte| *byte == b'\n')) {
             match self.read(line) {
-                Ok(Some((cab, asked))) => self.obey(rt, &mut rooms, Turn { command, cab }, asked)?,
+                Ok(Some((cab, asked))) => self.obey(rt, Turn { command, cab }, asked)?,
                 Ok(None) => {}
                 Err(fault) => println!(rt; "! line {command}, {fault}")?,
             }
@@ -58,13 +47,7 @@ impl Shift {
     }
 
     // Does what a command asks for.
-    fn obey(
-        &mut self,
-        rt: &impl Print,
-        rooms: &mut Rooms,
-        turn: Turn,
-        command: Command,
-    ) -> io::Result<()> {
+    fn obey(&mut self, rt: &impl Print, turn: Turn, command: Command) -> io::Result<()> {
         let cab = self.cab_mut(turn.cab);
         match command {
             Command::Settings(settings) => cab.settings = settings,
@@ -72,8 +55,8 @@ impl Shift {
             Command::PrivateRecord(record) => cab.private = record,
             Command::GroupRecord(record) => cab.group = record,
             Command::Happens(input) => cab.take_steps(rt, turn, input)?,
-            Command::Hears(line, hearing) => self.hear(rt, rooms, turn, line, hearing)?,
-            Command::Chooses(first, second) => self.choose(rt, rooms, turn, first, second)?,
+            Command::Hears(line, hearing) => self.hear(rt, turn, line, hearing)?,
+            Command::Chooses(first, second) => self.choose(rt, turn, first, second)?,
         }
         Ok(())
     }
@@ -90,15 +73,17 @@ impl Shift {
     }
 
     // Has both machines of a cab take a step on a line, unless the reader refuses it.
+    // No part of what calls it, as `choose`: only who hears lines has the stack for them.
+    #[inline(never)]
     fn hear(
         &mut self,
         rt: &impl Print,
-        rooms: &mut Rooms,
         turn: Turn,
         line: Line,
         hearing: Hearing,
     ) -> io::Result<()> {
-        let heard = line_in(&mut rooms.first, self.digits_of(line), hearing.ended);
+        let mut room = [0u8; MOST];
+        let heard = line_in(&mut room, self.digits_of(line), hearing.ended);
         match reader::read_line(heard) {
             Ok(frame) => {
                 let input = Input {
@@ -116,16 +101,11 @@ impl Shift {
     }
 
     // Has the chooser choose between two lines.
-    fn choose(
-        &self,
-        rt: &impl Print,
-        rooms: &mut Rooms,
-        turn: Turn,
-        first: Line,
-        second: Line,
-    ) -> io::Result<()> {
-        let one = line_in(&mut rooms.first, self.digits_of(first), true);
-        let other = line_in(&mut rooms.second, self.digits_of(second), true);
+    #[inline(never)]
+    fn choose(&self, rt: &impl Print, turn: Turn, first: Line, second: Line) -> io::Result<()> {
+        let (mut room, mut other_room) = ([0u8; MOST], [0u8; MOST]);
+        let one = line_in(&mut room, self.digits_of(first), true);
+        let other = line_in(&mut other_room, self.digits_of(second), true);
         let number = Refusal::number_of(&chooser::choose_number(one, other));
         let better = chooser::choose(one, other);
         let call = unended(better).unwrap_or("-");
